@@ -1,0 +1,11 @@
+-- The laws of terms as words that the crates above cite.
+pub mod Readings
+mod Lines
+pub mod Parsing
+pub mod Scan
+pub mod Extents
+pub mod Names
+pub mod TermTest
+pub mod Runs
+pub mod Places
+mod Examples

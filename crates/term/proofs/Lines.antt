@@ -1,0 +1,160 @@
+-- The code's table of heads is the definition's, and what its digits say.
+use mathlib.Core.Path.{_≡_, refl, sym, _∙_, ap}
+use mathlib.Core.Bool.{cond}
+use mathlib.Core.Logic.{_≢_}
+use Prim.Native.Nat.{ℕ, zero, suc, _-_, _/_, _%_, _≤_}
+use native.Mathlib.Omega.{arith}
+use lib.Dec.{T, eqb, leb→le, eqb·suc-zero}
+use lib.ListN.{length, getD, List·getD-eq-default}
+use Rattle.term.specs.declared.heads.Arity.{Arity}
+use Rattle.term.specs.declared.heads.Arity.the-variants.{Unknown, Children}
+use Rattle.term.specs.declared.heads.Class.{Class}
+use Rattle.term.specs.declared.heads.Class.the-variants.{Nothing, Index, Basis, Scalar, Ket, Bra, Operator, Array, Term}
+use Rattle.term.specs.Heads.{Head, unknown, named, fixed, counted, heads, reading, read, arityIn, arityOf, resultIn, resultOf, childIn, childOf}
+use Rattle.term.specs.Lines.{digit, lineOf, lineAt, classOf}
+use Rattle.term.proofs.Readings.{few, few-at}
+
+-- a line at a number past the table is the unknown head's, which is 0
+pub line-past : (h : ℕ) → 27 ≤ h → lineAt h ≡ 0
+unfolding lineAt heads
+line-past h k = ap lineOf (List·getD-eq-default heads unknown k)
+
+digit-small : (c : Class) → digit c ≤ 8
+unfolding digit
+digit-small Nothing = omega arith
+digit-small Index = omega arith
+digit-small Basis = omega arith
+digit-small Scalar = omega arith
+digit-small Ket = omega arith
+digit-small Bra = omega arith
+digit-small Operator = omega arith
+digit-small Array = omega arith
+digit-small Term = omega arith
+
+class-digit : (c : Class) → classOf (digit c) ≡ c
+unfolding digit
+class-digit Nothing = refl
+class-digit Index = refl
+class-digit Basis = refl
+class-digit Scalar = refl
+class-digit Ket = refl
+class-digit Bra = refl
+class-digit Operator = refl
+class-digit Array = refl
+class-digit Term = refl
+
+-- only the digits 1 to 8 stand for a class
+pub class-none : (d : ℕ) → d ≢ 1 → d ≢ 2 → d ≢ 3 → d ≢ 4 → d ≢ 5 → d ≢ 6 → d ≢ 7 → d ≢ 8 → classOf d ≡ Nothing
+class-none zero a b e f g h i j = refl
+class-none (suc zero) a b e f g h i j = absurd (a refl)
+class-none (suc (suc zero)) a b e f g h i j = absurd (b refl)
+class-none (suc (suc (suc zero))) a b e f g h i j = absurd (e refl)
+class-none (suc (suc (suc (suc zero)))) a b e f g h i j = absurd (f refl)
+class-none (suc (suc (suc (suc (suc zero))))) a b e f g h i j = absurd (g refl)
+class-none (suc (suc (suc (suc (suc (suc zero)))))) a b e f g h i j = absurd (h refl)
+class-none (suc (suc (suc (suc (suc (suc (suc zero))))))) a b e f g h i j = absurd (i refl)
+class-none (suc (suc (suc (suc (suc (suc (suc (suc zero)))))))) a b e f g h i j = absurd (j refl)
+class-none (suc (suc (suc (suc (suc (suc (suc (suc (suc d))))))))) a b e f g h i j = refl
+
+-- the first digit, by the form of the head
+formOf : Head → ℕ
+formOf unknown = 0
+formOf (named l c) = 1
+formOf (counted l c c′) = 2
+formOf (fixed l c cs) = suc (suc (suc (length cs)))
+
+form-digit : (h : Head) → lineOf h / 4096 ≡ formOf h
+unfolding lineOf formOf
+form-digit unknown = refl
+form-digit (named l c) = omega (arith, digit-small c)
+form-digit (counted l c c′) = omega (arith, digit-small c, digit-small c′)
+form-digit (fixed l c cs) = omega (arith, digit-small c, digit-small (getD cs 0 Nothing), digit-small (getD cs 1 Nothing))
+
+result-digit : (h : Head) → lineOf h / 256 % 16 ≡ digit (resultIn h)
+unfolding lineOf resultIn
+result-digit unknown = refl
+result-digit (named l c) = omega (arith, digit-small c)
+result-digit (counted l c c′) = omega (arith, digit-small c, digit-small c′)
+result-digit (fixed l c cs) = omega (arith, digit-small c, digit-small (getD cs 0 Nothing), digit-small (getD cs 1 Nothing))
+
+child-digit : (h : Head) → lineOf h / 16 % 16 ≡ digit (childIn h 0)
+unfolding lineOf childIn digit
+child-digit unknown = refl
+child-digit (named l c) = omega (arith, digit-small c)
+child-digit (counted l c c′) = omega (arith, digit-small c, digit-small c′)
+child-digit (fixed l c cs) = omega (arith, digit-small c, digit-small (getD cs 0 Nothing), digit-small (getD cs 1 Nothing))
+
+-- the last digit: the second child's, where the children are not counted
+last-digit : (h : Head) → formOf h ≢ 2 → lineOf h % 16 ≡ digit (childIn h 1)
+unfolding lineOf childIn digit formOf
+last-digit unknown f = refl
+last-digit (named l c) f = omega (arith, digit-small c)
+last-digit (counted l c c′) f = absurd (f refl)
+last-digit (fixed l c cs) f = omega (arith, digit-small c, digit-small (getD cs 0 Nothing), digit-small (getD cs 1 Nothing))
+
+-- ---- what the functions answer
+abbrev pub arityBy : ℕ → ℕ → Arity
+arityBy zero a = Unknown
+arityBy (suc zero) a = Children 0
+arityBy (suc (suc zero)) a = cond (eqb a 0) Unknown (Children a)
+arityBy (suc (suc (suc n))) a = cond (eqb a 0) (Children n) Unknown
+
+arity-by : (h : Head) (a : ℕ) → arityIn (reading h a) ≡ arityBy (formOf h) a
+unfolding arityIn reading formOf
+arity-by unknown a = refl
+arity-by (named l c) a = refl
+arity-by (counted l c c′) zero = refl
+arity-by (counted l c c′) (suc a) = rw eqb·suc-zero
+arity-by (fixed l c cs) zero = refl
+arity-by (fixed l c cs) (suc a) = rw eqb·suc-zero
+
+pub arity-line : (w r f : ℕ) → r ≡ lineAt (w / 256) → r / 4096 ≡ f → arityOf w ≡ arityBy f (w % 256)
+unfolding arityOf read lineAt
+arity-line w r f e k =
+    let h = getD heads (w / 256) unknown in
+    arity-by h (w % 256) ∙ ap (λ x. arityBy x (w % 256)) (sym (form-digit h) ∙ ap (λ x. x / 4096) (sym e) ∙ k)
+
+pub arity-fixed : (f a : ℕ) → 3 ≤ f → arityBy f a ≡ cond (eqb a 0) (Children (f - 3)) Unknown
+arity-fixed zero a h = absurd (omega arith)
+arity-fixed (suc zero) a h = absurd (omega arith)
+arity-fixed (suc (suc zero)) a h = absurd (omega arith)
+arity-fixed (suc (suc (suc n))) a h = let e : suc (suc (suc n)) - 3 ≡ n = omega arith in rw e
+
+pub result-line : (h r : ℕ) → r ≡ lineAt h → classOf (r / 256 % 16) ≡ resultOf h
+unfolding resultOf lineAt
+result-line h r e = rw e (ap classOf (result-digit (getD heads h unknown)) ∙ class-digit _)
+
+pub child-line : (h r : ℕ) → r ≡ lineAt h → classOf (r / 16 % 16) ≡ childOf h 0
+unfolding childOf lineAt
+child-line h r e = rw e (ap classOf (child-digit (getD heads h unknown)) ∙ class-digit _)
+
+pub second-line : (h r : ℕ) → r ≡ lineAt h → r / 4096 ≢ 2 → classOf (r % 16) ≡ childOf h 1
+unfolding childOf lineAt
+second-line h r e k =
+    let k′ : formOf (getD heads h unknown) ≢ 2 = λ f. k (ap (λ x. x / 4096) e ∙ form-digit (getD heads h unknown) ∙ f) in
+    rw e (ap classOf (last-digit (getD heads h unknown) k′) ∙ class-digit _)
+
+-- the children of a counted head are all of one class
+counted-child : (h : Head) (k : ℕ) → formOf h ≡ 2 → childIn h k ≡ childIn h 0
+unfolding formOf childIn
+counted-child unknown k e = refl
+counted-child (named l c) k e = refl
+counted-child (counted l c c′) k e = refl
+counted-child (fixed l c cs) k e = absurd (omega arith)
+
+pub counted-line : (h r k : ℕ) → r ≡ lineAt h → r / 4096 ≡ 2 → childOf h k ≡ childOf h 0
+unfolding childOf lineAt
+counted-line h r k e f = counted-child (getD heads h unknown) k (sym (form-digit (getD heads h unknown)) ∙ ap (λ x. x / 4096) (sym e) ∙ f)
+
+-- and no other head has more than two
+few-children : (h : Head) (k : ℕ) → T (few h) → 2 ≤ k → formOf h ≢ 2 → childIn h k ≡ Nothing
+unfolding formOf childIn
+few-children unknown k x h f = refl
+few-children (named l c) k x h f = refl
+few-children (counted l c c′) k x h f = absurd (f refl)
+few-children (fixed l c cs) k x h f = List·getD-eq-default cs Nothing (omega (arith, leb→le (length cs) 2 x))
+
+pub others-line : (h r k : ℕ) → r ≡ lineAt h → r / 4096 ≢ 2 → 2 ≤ k → childOf h k ≡ Nothing
+unfolding childOf lineAt
+others-line h r k e f g =
+    few-children (getD heads h unknown) k (few-at h) g (λ x. f (ap (λ y. y / 4096) e ∙ form-digit (getD heads h unknown) ∙ x))

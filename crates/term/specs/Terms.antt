@@ -1,0 +1,73 @@
+-- The limits of a term, its names, and what a term is.
+use mathlib.Core.Path.{_≡_}
+use mathlib.Core.Bool.{Bool, true, cond, _&&_}
+use mathlib.Core.List.{List, [], _∷_}
+use Prim.Native.Nat.{ℕ, _/_, _%_, _≤_}
+use lib.Dec.{eqb, leb, ltb}
+use lib.ListN.{length, take, drop}
+use Rattle.term.specs.declared.terms.Names.{Names}
+use Rattle.term.specs.Trees.{Tree, Forest, none, _▹_, words, Formed, depth}
+use Rattle.term.specs.Parts.{parse, part}
+
+-- 01: "A term has at most 4,096 words and is at most 64 deep", "A type index has at most 63 words", "n is 1 to 255", "Names are 0 to 31"
+abbrev pub maxWords : ℕ
+maxWords = 4096
+
+abbrev pub maxDepth : ℕ
+maxDepth = 64
+
+abbrev pub maxIndex : ℕ
+maxIndex = 63
+
+abbrev pub maxChildren : ℕ
+maxChildren = 255
+
+abbrev pub maxNames : ℕ
+maxNames = 32
+
+-- the depth of the part that begins at an offset, 0 where none does
+unfoldable pub firstDepth : Forest → ℕ
+firstDepth none = 0
+firstDepth (t ▹ f) = depth t
+
+unfoldable pub partDepth : List ℕ → ℕ → ℕ
+unfolding firstDepth
+partDepth ws at = firstDepth (parse (drop at ws))
+
+-- 01: "Names are 0 to 31 and must be declared", where so many are
+unfoldable pub known : ℕ → ℕ → Bool
+known a n = ltb a n && ltb a maxNames
+
+-- the name in a word of head 1, 3 or 26 is declared; other words have no name
+unfoldable pub declared : Names → ℕ → Bool
+unfolding known
+declared N w =
+    cond (eqb (w / 256) 1) (known (w % 256) (N .types))
+    (cond (eqb (w / 256) 3) (known (w % 256) (N .bases))
+    (cond (eqb (w / 256) 26) (known (w % 256) (N .variables)) true))
+
+unfoldable pub allDeclared : Names → List ℕ → Bool
+allDeclared N [] = true
+allDeclared N (w ∷ ws) = declared N w && allDeclared N ws
+
+-- What a term is, of a tree: document 01's limits and its declared names
+pub record IsTerm (N : Names) (t : Tree) : Type 0 where
+  pub formed : Formed t
+  pub short : length (words t) ≤ maxWords
+  pub shallow : depth t ≤ maxDepth
+  pub named : allDeclared N (words t) ≡ true
+
+-- What a term is, of words: they are one whole part to their end, within the limits and with declared names
+unfoldable pub termWords : Names → List ℕ → Bool
+unfolding part partDepth allDeclared
+termWords N ws =
+    ltb 0 (length ws)
+    && (leb (length ws) maxWords
+    && (eqb (length (part ws 0)) (length ws)
+    && (leb (partDepth ws 0) maxDepth
+    && allDeclared N ws)))
+
+-- code 8's test, of the first n words of a slice: 01, "also for a length that is not the term's"
+unfoldable pub isTerm : Names → List ℕ → ℕ → Bool
+unfolding termWords
+isTerm N ws n = leb n (length ws) && termWords N (take n ws)

@@ -1,0 +1,4 @@
+pub mod heads;
+pub mod parts;
+pub mod terms;
+pub mod words;
