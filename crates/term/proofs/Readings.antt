@@ -16,15 +16,15 @@ Numbered k (named l c) = (a : ℕ) → word (l a) 0 ≡ k * 256 + a
 Numbered k (fixed l c cs) = word l (length cs) ≡ k * 256
 Numbered k (counted l c c′) = (n : ℕ) → word l n ≡ k * 256 + n
 
-abbrev Every : (ℕ → Head → Type 0) → ℕ → List Head → Type 0
+abbrev pub Every : (ℕ → Head → Type 0) → ℕ → List Head → Type 0
 Every P k [] = Unit {0}
 Every P k (h ∷ hs) = P k h × Every P (suc k) hs
 
 infixr 5 _⨾_
-abbrev _⨾_ : {A B : Type 0} → A → B → A × B
+abbrev pub _⨾_ : {A B : Type 0} → A → B → A × B
 a ⨾ b = (a, b)
 
-every-at : (P : ℕ → Head → Type 0) → ((k : ℕ) → P k unknown) → (hs : List Head) (k : ℕ) → Every P k hs → (i : ℕ) → P (k + i) (getD hs i unknown)
+pub every-at : (P : ℕ → Head → Type 0) → ((k : ℕ) → P k unknown) → (hs : List Head) (k : ℕ) → Every P k hs → (i : ℕ) → P (k + i) (getD hs i unknown)
 every-at P d [] k e i = d (k + i)
 every-at P d (h ∷ hs) k e zero = rw add-zero' (e .0)
   where

@@ -1,0 +1,98 @@
+//! A generator with a seed: declarations, typed terms, instances of rules,
+//! accepted derivations, damaged copies, and choices of matrices.
+
+mod cases;
+mod damage;
+mod instances;
+mod layers;
+mod rng;
+mod terms;
+mod walks;
+
+pub use damage::damaged;
+pub use instances::Instance;
+pub use rng::Rng;
+pub use terms::Want;
+pub use walks::Derivation;
+
+use crate::decl::{Declarations, Letter, Variable};
+use crate::matrix::{dimension, shape, Choice, Gauss, Matrix};
+use crate::words::{word, TYPE};
+
+/// Declarations, and the numbers from which terms over them are made.
+#[derive(Clone, Debug)]
+pub struct Gen {
+    pub rng: Rng,
+    pub declared: Declarations,
+}
+
+impl Gen {
+    /// A generator with declarations of its own.
+    pub fn new(seed: u64) -> Self {
+        let mut gen = Gen { rng: Rng::new(seed), declared: Declarations::default() };
+        gen.declare();
+        gen
+    }
+
+    /// New declarations: a few types; bases and variables for each of them and
+    /// for some products.
+    pub fn declare(&mut self) {
+        let types = self.rng.within(1, 3);
+        self.declared = Declarations { types, ..Declarations::default() };
+        let atoms: Vec<Vec<u16>> = (0..types).map(|a| vec![word(TYPE, a as u8)]).collect();
+        let mut bases: Vec<Vec<u16>> = Vec::new();
+        let mut variables = Vec::new();
+        for _ in 0..self.rng.within(1, 3) {
+            variables.push(Variable { letter: Letter::Scalar, words: Vec::new() });
+        }
+        for index in &atoms {
+            for _ in 0..self.rng.within(1, 3) {
+                bases.push(index.clone());
+            }
+            variables.push(Variable { letter: Letter::Ket, words: index.clone() });
+            variables.push(Variable { letter: Letter::Bra, words: index.clone() });
+            for columns in &atoms {
+                let words = [&index[..], columns].concat();
+                variables.push(Variable { letter: Letter::Operator, words });
+            }
+        }
+        for _ in 0..self.rng.within(0, 3) {
+            let index = self.index();
+            if self.rng.once_in(2) {
+                bases.push(index.clone());
+            }
+            for letter in [Letter::Ket, Letter::Bra] {
+                if self.rng.once_in(2) {
+                    variables.push(Variable { letter, words: index.clone() });
+                }
+            }
+            if self.rng.once_in(2) {
+                let words = [index, self.index()].concat();
+                variables.push(Variable { letter: Letter::Operator, words });
+            }
+        }
+        self.rng.shuffle(&mut bases);
+        self.rng.shuffle(&mut variables);
+        self.declared.bases = bases;
+        self.declared.variables = variables;
+    }
+
+    /// A choice with dimensions from 1 to `largest`.
+    pub fn choice(&mut self, largest: usize) -> Option<Choice> {
+        let types = self.declared.types;
+        let dimensions: Vec<usize> = (0..types).map(|_| self.rng.within(1, largest)).collect();
+        let mut bases = Vec::new();
+        for index in &self.declared.bases {
+            bases.push(self.rng.below(dimension(index, &dimensions)?));
+        }
+        let mut variables = Vec::new();
+        for variable in &self.declared.variables {
+            let (rows, columns) = shape(variable.letter, &variable.words, &dimensions)?;
+            let rng = &mut self.rng;
+            let mut part = || rng.below(7) as i128 - 3;
+            variables
+                .push(Matrix::new(rows, columns, |_, _| Some(Gauss { re: part(), im: part() }))?);
+        }
+        Some(Choice { dimensions, bases, variables })
+    }
+}

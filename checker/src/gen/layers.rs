@@ -1,0 +1,129 @@
+//! Larger typed terms around a part.
+
+use super::terms::{adjoint, product, Want};
+use super::Gen;
+use crate::words::*;
+use Want::{Bra, Ket, Operator, Scalar};
+
+impl Gen {
+    /// Puts conjugates or adjoints before a term, which keep its type, until
+    /// it is 60 to 64 deep: the words, and where the term now begins.
+    pub fn deepen(&mut self, want: &Want, words: &[u16]) -> (Vec<u16>, usize) {
+        let wanted = self.rng.within(61, DEPTH);
+        let missing = wanted.saturating_sub(depth(words).unwrap_or(DEPTH));
+        let (head, above) = match want {
+            Scalar => (CONJ, missing),
+            _ => (ADJ, missing / 2 * 2),
+        };
+        ([&vec![word(head, 0); above], words].concat(), above)
+    }
+
+    /// Puts a part into a larger typed term: its type, its words, and where
+    /// the part now begins.
+    pub fn wrap(&mut self, want: &Want, part: &[u16]) -> (Want, Vec<u16>, usize) {
+        let (mut want, mut words, mut place) = (want.clone(), part.to_vec(), 0);
+        for _ in 0..self.rng.below(3) {
+            let (around, before, behind) = self.layer(&want);
+            place += before.len();
+            words = [before, words, behind].concat();
+            want = around;
+        }
+        (want, words, place)
+    }
+
+    /// One layer around a part: the new type, the words before and behind.
+    fn layer(&mut self, want: &Want) -> (Want, Vec<u16>, Vec<u16>) {
+        let only = |head| vec![word(head, 0)];
+        let none = Vec::new();
+        match self.rng.below(8) {
+            0 | 1 => {
+                let head = match want {
+                    Scalar => *self.rng.pick(&[ADDS, MULS]),
+                    _ => ADD,
+                };
+                let (before, behind) = (self.rng.below(3), self.rng.below(2));
+                let mut front = vec![word(head, (before + 1 + behind) as u8)];
+                for _ in 0..before {
+                    self.put(want, 1, &mut front);
+                }
+                let mut back = Vec::new();
+                for _ in 0..behind {
+                    self.put(want, 1, &mut back);
+                }
+                (want.clone(), front, back)
+            }
+            2 => match want {
+                Scalar => (Scalar, only(CONJ), none),
+                _ => (adjoint(want).unwrap_or(Scalar), only(ADJ), none),
+            },
+            3 => match want {
+                Scalar => {
+                    let scaled = self.vector();
+                    let behind = self.term(&scaled, 1);
+                    (scaled, only(SCR), behind)
+                }
+                _ => {
+                    let before = [only(SCR), self.term(&Scalar, 1)].concat();
+                    (want.clone(), before, none)
+                }
+            },
+            4 => self.tensored(want),
+            _ => self.multiplied(want),
+        }
+    }
+
+    fn tensored(&mut self, want: &Want) -> (Want, Vec<u16>, Vec<u16>) {
+        let other = match want {
+            Scalar => return (Scalar, vec![word(CONJ, 0)], Vec::new()),
+            Ket(_) => Ket(self.atom()),
+            Bra(_) => Bra(self.atom()),
+            Operator(..) => Operator(self.atom(), self.atom()),
+        };
+        let factor = self.term(&other, 1);
+        let join = |left: &Want, right: &Want| match (left, right) {
+            (Ket(a), Ket(b)) => Ket(product(a, b)),
+            (Bra(a), Bra(b)) => Bra(product(a, b)),
+            (Operator(a, b), Operator(c, d)) => Operator(product(a, c), product(b, d)),
+            _ => Scalar,
+        };
+        if self.rng.once_in(2) {
+            (join(want, &other), vec![word(TSR, 0)], factor)
+        } else {
+            (join(&other, want), [vec![word(TSR, 0)], factor].concat(), Vec::new())
+        }
+    }
+
+    fn multiplied(&mut self, want: &Want) -> (Want, Vec<u16>, Vec<u16>) {
+        let index = self.index();
+        let first = self.rng.once_in(2);
+        // Head, the other factor, whether the part comes first, the new type.
+        let (head, other, first, around) = match want.clone() {
+            Scalar => {
+                let scaled = self.vector();
+                (SCR, scaled.clone(), true, scaled)
+            }
+            Ket(s) => match self.rng.below(3) {
+                0 => (DOT, Bra(s), false, Scalar),
+                1 => (MULK, Operator(index.clone(), s), false, Ket(index)),
+                _ => (OUTER, Bra(index.clone()), true, Operator(s, index)),
+            },
+            Bra(t) => match self.rng.below(3) {
+                0 => (DOT, Ket(t), true, Scalar),
+                1 => (MULB, Operator(t, index.clone()), true, Bra(index)),
+                _ => (OUTER, Ket(index.clone()), false, Operator(index, t)),
+            },
+            Operator(s, t) => match self.rng.below(3) {
+                0 => (MULK, Ket(t), true, Ket(s)),
+                1 => (MULB, Bra(s), false, Bra(t)),
+                _ if first => (MULO, Operator(t, index.clone()), true, Operator(s, index)),
+                _ => (MULO, Operator(index.clone(), s), false, Operator(index, t)),
+            },
+        };
+        let factor = self.term(&other, 1);
+        if first {
+            (around, vec![word(head, 0)], factor)
+        } else {
+            (around, [vec![word(head, 0)], factor].concat(), Vec::new())
+        }
+    }
+}

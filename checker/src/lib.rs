@@ -1,0 +1,17 @@
+//! A second, separately written reading of document 01, "The derivation
+//! replay". Every module is one idea; nothing here is shared with other
+//! programs that read the same document.
+
+#![forbid(unsafe_code)]
+
+pub mod case;
+pub mod decl;
+pub mod file;
+pub mod gen;
+pub mod matrix;
+pub mod notation;
+pub mod replay;
+pub mod rules;
+pub mod step;
+pub mod typing;
+pub mod words;

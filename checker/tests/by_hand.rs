@@ -1,0 +1,358 @@
+//! Every rule's result word by word, worked out by hand from 002's tables and
+//! document 01, and parts that are no instances.
+
+use checker::decl::{Declarations, Letter, Variable};
+use checker::file::words;
+use checker::rules::{Way, RULES};
+use checker::step::{single, Step};
+use checker::words::{tokens, WORDS};
+
+/// The types S, T, U, V.
+const TYPES: [(&str, &str); 4] = [("S", "1:0"), ("T", "1:1"), ("U", "1:2"), ("V", "1:3")];
+
+/// Basis names by their type: s, p of S; t of T; u of U; v of V.
+const BASES: [(&str, &str); 5] = [("s", "S"), ("p", "S"), ("t", "T"), ("u", "U"), ("v", "V")];
+
+/// Variables: scalars, kets, bras, and operators named by their two types.
+const VARIABLES: [(&str, Letter, &str); 26] = [
+    ("a", Letter::Scalar, ""),
+    ("b", Letter::Scalar, ""),
+    ("c", Letter::Scalar, ""),
+    ("kS", Letter::Ket, "S"),
+    ("lS", Letter::Ket, "S"),
+    ("kT", Letter::Ket, "T"),
+    ("kU", Letter::Ket, "U"),
+    ("kV", Letter::Ket, "V"),
+    ("kTV", Letter::Ket, "2 T V"),
+    ("bS", Letter::Bra, "S"),
+    ("dS", Letter::Bra, "S"),
+    ("bT", Letter::Bra, "T"),
+    ("bU", Letter::Bra, "U"),
+    ("bV", Letter::Bra, "V"),
+    ("bSU", Letter::Bra, "2 S U"),
+    ("SS", Letter::Operator, "S S"),
+    ("ST", Letter::Operator, "S T"),
+    ("QST", Letter::Operator, "S T"),
+    ("TS", Letter::Operator, "T S"),
+    ("TU", Letter::Operator, "T U"),
+    ("UV", Letter::Operator, "U V"),
+    ("VU", Letter::Operator, "V U"),
+    ("kSU", Letter::Ket, "2 S U"),
+    ("bTV", Letter::Bra, "2 T V"),
+    ("SU", Letter::Operator, "S U"),
+    ("US", Letter::Operator, "U S"),
+];
+
+/// Words of a text in which the names above stand beside tokens.
+fn read(text: &str) -> Vec<u16> {
+    let mut out = Vec::new();
+    for token in text.split_whitespace() {
+        let found = if let Some((_, index)) = TYPES.iter().find(|(name, _)| *name == token) {
+            index.to_string()
+        } else if let Some(k) = BASES.iter().position(|(name, _)| *name == token) {
+            format!("3:{k}")
+        } else if let Some(k) = VARIABLES.iter().position(|(name, ..)| *name == token) {
+            format!("26:{k}")
+        } else {
+            token.to_string()
+        };
+        out.extend(words(found.as_bytes()).expect(token));
+    }
+    out
+}
+
+fn declared() -> Declarations {
+    Declarations {
+        types: 4,
+        bases: BASES.iter().map(|(_, index)| read(index)).collect(),
+        variables: VARIABLES
+            .iter()
+            .map(|&(_, letter, indices)| Variable { letter, words: read(indices) })
+            .collect(),
+    }
+}
+
+/// The code and the words after one step; the slice starts dirty.
+fn step(rule: u16, i: u16, j: u16, term: &[u16]) -> (u8, String) {
+    let mut slice = vec![0xABCD; WORDS];
+    slice[..term.len()].copy_from_slice(term);
+    let answer = single(&declared(), &mut slice, term.len(), Step { rule, place: 0, i, j });
+    assert!(slice[answer.length..].iter().all(|&word| word == 0), "zeros behind");
+    (answer.code, tokens(&slice[..answer.length]))
+}
+
+/// Rule, i, j, the part, what it becomes.
+const RESULTS: [(u16, u16, u16, &str, &str); 123] = [
+    (1, 1, 0, "7:3 a 7:2 b c a", "7:4 a b c a"),
+    (1, 0, 0, "8:2 8:1 a b", "8:2 a b"),
+    (1, 1, 0, "20:2 kS 20:2 lS kS", "20:3 kS lS kS"),
+    (1, 0, 0, "7:1 7:1 a", "7:1 a"),
+    (2, 0, 0, "7:1 a", "a"),
+    (3, 0, 0, "8:1 a", "a"),
+    (4, 1, 0, "7:3 a 5 b", "7:2 a b"),
+    (5, 1, 0, "8:3 a 5 b", "5"),
+    (6, 2, 0, "8:3 a b 6", "8:2 a b"),
+    (7, 1, 0, "8:3 a 7:2 b c a", "7:2 8:3 a b a 8:3 a c a"),
+    (10, 0, 0, "9 5", "5"),
+    (11, 0, 0, "9 6", "6"),
+    (12, 0, 0, "9 7:2 a b", "7:2 9 a 9 b"),
+    (13, 0, 0, "9 8:2 a b", "8:2 9 a 9 b"),
+    (14, 0, 0, "9 9 a", "a"),
+    (15, 0, 0, "9 10 s p", "10 s p"),
+    (16, 0, 0, "9 11 bS kS", "11 18 kS 18 bS"),
+    (20, 0, 0, "11 13 S kS", "5"),
+    (21, 0, 0, "11 bS 12 S", "5"),
+    (22, 0, 0, "11 19 a bS kS", "8:2 a 11 bS kS"),
+    (23, 0, 0, "11 bS 19 a kS", "8:2 a 11 bS kS"),
+    (24, 0, 0, "11 20:2 bS dS kS", "7:2 11 bS kS 11 dS kS"),
+    (25, 0, 0, "11 bS 20:2 kS lS", "7:2 11 bS kS 11 bS lS"),
+    (26, 0, 0, "11 17 s 16 p", "10 s p"),
+    (27, 0, 0, "11 21 bS bU 16 4 s u", "8:2 11 bS 16 s 11 bU 16 u"),
+    (28, 0, 0, "11 17 4 s u 21 kS kU", "8:2 11 17 s kS 11 17 u kU"),
+    (29, 0, 0, "11 21 bS bU 21 kS kU", "8:2 11 bS kS 11 bU kU"),
+    (30, 0, 0, "11 23 bS ST kT", "11 bS 22 ST kT"),
+    (31, 0, 0, "11 17 4 s u 22 21 ST UV kTV", "11 21 23 17 s ST 23 17 u UV kTV"),
+    (32, 0, 0, "11 21 bS bU 22 21 ST UV kTV", "11 21 23 bS ST 23 bU UV kTV"),
+    (33, 0, 0, "10 4 s u 4 s u", "6"),
+    (34, 0, 0, "10 4 s u 4 p u", "8:2 10 s p 10 u u"),
+    (40, 0, 0, "19 6 kS", "kS"),
+    (41, 0, 0, "19 a 19 b kS", "19 8:2 a b kS"),
+    (42, 0, 0, "19 a 20:2 kS lS", "20:2 19 a kS 19 a lS"),
+    (43, 0, 0, "19 5 22 ST kT", "12 S"),
+    (44, 0, 0, "19 a 12 S", "12 S"),
+    (45, 0, 0, "19 5 23 bS ST", "13 T"),
+    (46, 0, 0, "19 a 13 S", "13 S"),
+    (47, 0, 0, "19 5 ST", "14 S T"),
+    (48, 0, 0, "19 a 14 S T", "14 S T"),
+    (50, 0, 0, "20:1 ST", "ST"),
+    (51, 0, 2, "20:4 kS lS kS lS", "20:3 lS lS 19 7:2 6 6 kS"),
+    (52, 0, 2, "20:3 kS lS 19 a kS", "20:2 lS 19 7:2 6 a kS"),
+    (53, 0, 2, "20:3 19 a kS lS kS", "20:2 lS 19 7:2 a 6 kS"),
+    (54, 1, 2, "20:3 lS 19 a kS 19 b kS", "20:2 lS 19 7:2 a b kS"),
+    (55, 1, 0, "20:2 kS 12 S", "20:1 kS"),
+    (56, 0, 0, "20:2 13 S bS", "20:1 bS"),
+    (57, 1, 0, "20:3 ST 14 S T QST", "20:2 ST QST"),
+    (60, 0, 0, "18 18 kS", "kS"),
+    (61, 0, 0, "18 19 a kS", "19 9 a 18 kS"),
+    (62, 0, 0, "18 20:2 kS lS", "20:2 18 kS 18 lS"),
+    (63, 0, 0, "18 21 kS kU", "21 18 kS 18 kU"),
+    (64, 0, 0, "18 13 S", "12 S"),
+    (65, 0, 0, "18 17 s", "16 s"),
+    (66, 0, 0, "18 23 bS ST", "22 18 ST 18 bS"),
+    (67, 0, 0, "18 12 S", "13 S"),
+    (68, 0, 0, "18 16 s", "17 s"),
+    (69, 0, 0, "18 22 ST kT", "23 18 kT 18 ST"),
+    (70, 0, 0, "18 14 S T", "14 T S"),
+    (71, 0, 0, "18 15 S", "15 S"),
+    (72, 0, 0, "18 24 kS bT", "24 18 bT 18 kS"),
+    (73, 0, 0, "18 25 ST TU", "25 18 TU 18 ST"),
+    (80, 0, 0, "21 19 a kS kU", "19 a 21 kS kU"),
+    (81, 0, 0, "21 kS 19 a kU", "19 a 21 kS kU"),
+    (82, 0, 0, "21 20:2 kS lS kU", "20:2 21 kS kU 21 lS kU"),
+    (83, 0, 0, "21 kU 20:2 kS lS", "20:2 21 kU kS 21 kU lS"),
+    (84, 0, 0, "21 12 S kU", "12 2 S U"),
+    (85, 0, 0, "21 kU 12 S", "12 2 U S"),
+    (86, 0, 0, "21 16 s 16 u", "16 4 s u"),
+    (87, 0, 0, "21 13 S bU", "13 2 S U"),
+    (88, 0, 0, "21 bU 13 S", "13 2 U S"),
+    (89, 0, 0, "21 17 s 17 u", "17 4 s u"),
+    (90, 0, 0, "21 ST 14 U V", "14 2 S U 2 T V"),
+    (91, 0, 0, "21 14 U V ST", "14 2 U S 2 V T"),
+    (92, 0, 0, "21 15 S 15 T", "15 2 S T"),
+    (93, 0, 0, "21 24 kS bT 24 kU bV", "24 21 kS kU 21 bT bV"),
+    (100, 0, 0, "22 14 S T kT", "12 S"),
+    (101, 0, 0, "22 ST 12 T", "12 S"),
+    (102, 0, 0, "22 15 S kS", "kS"),
+    (103, 0, 0, "22 19 a ST kT", "19 a 22 ST kT"),
+    (104, 0, 0, "22 ST 19 a kT", "19 a 22 ST kT"),
+    (105, 0, 0, "22 20:2 ST QST kT", "20:2 22 ST kT 22 QST kT"),
+    (106, 0, 0, "22 SS 20:2 kS lS", "20:2 22 SS kS 22 SS lS"),
+    (107, 0, 0, "22 24 kS bT kT", "19 11 bT kT kS"),
+    (108, 0, 0, "22 25 ST TU kU", "22 ST 22 TU kU"),
+    (109, 0, 0, "22 21 TS VU 22 21 ST UV kTV", "22 21 25 TS ST 25 VU UV kTV"),
+    (110, 0, 0, "22 21 ST UV 16 4 t v", "21 22 ST 16 t 22 UV 16 v"),
+    (111, 0, 0, "22 21 ST UV 21 kT kV", "21 22 ST kT 22 UV kV"),
+    (120, 0, 0, "23 bS 14 S T", "13 T"),
+    (121, 0, 0, "23 13 S ST", "13 T"),
+    (122, 0, 0, "23 bS 15 S", "bS"),
+    (123, 0, 0, "23 19 a bS ST", "19 a 23 bS ST"),
+    (124, 0, 0, "23 bS 19 a ST", "19 a 23 bS ST"),
+    (125, 0, 0, "23 20:2 bS dS ST", "20:2 23 bS ST 23 dS ST"),
+    (126, 0, 0, "23 bS 20:2 ST QST", "20:2 23 bS ST 23 bS QST"),
+    (127, 0, 0, "23 bS 24 kS bT", "19 11 bS kS bT"),
+    (128, 0, 0, "23 bS 25 ST TU", "23 23 bS ST TU"),
+    (129, 0, 0, "23 23 bSU 21 ST UV 21 TS VU", "23 bSU 25 21 ST UV 21 TS VU"),
+    (130, 0, 0, "23 17 4 s u 21 ST UV", "21 23 17 s ST 23 17 u UV"),
+    (131, 0, 0, "23 21 bS bU 21 ST UV", "21 23 bS ST 23 bU UV"),
+    (140, 0, 0, "24 12 S bT", "14 S T"),
+    (141, 0, 0, "24 kS 13 T", "14 S T"),
+    (142, 0, 0, "24 19 a kS bT", "19 a 24 kS bT"),
+    (143, 0, 0, "24 kS 19 a bT", "19 a 24 kS bT"),
+    (144, 0, 0, "24 20:2 kS lS bT", "20:2 24 kS bT 24 lS bT"),
+    (145, 0, 0, "24 kT 20:2 bS dS", "20:2 24 kT bS 24 kT dS"),
+    (150, 0, 0, "25 14 S T TU", "14 S U"),
+    (151, 0, 0, "25 ST 14 T U", "14 S U"),
+    (152, 0, 0, "25 15 S ST", "ST"),
+    (153, 0, 0, "25 ST 15 T", "ST"),
+    (154, 0, 0, "25 24 kS bT TU", "24 kS 23 bT TU"),
+    (155, 0, 0, "25 ST 24 kT bU", "24 22 ST kT bU"),
+    (156, 0, 0, "25 19 a ST TU", "19 a 25 ST TU"),
+    (157, 0, 0, "25 ST 19 a TU", "19 a 25 ST TU"),
+    (158, 0, 0, "25 20:2 ST QST TU", "20:2 25 ST TU 25 QST TU"),
+    (159, 0, 0, "25 SS 20:2 ST QST", "20:2 25 SS ST 25 SS QST"),
+    (160, 0, 0, "25 25 ST TU UV", "25 ST 25 TU UV"),
+    (161, 0, 0, "25 21 ST UV 21 TS VU", "21 25 ST TS 25 UV VU"),
+    (162, 0, 0, "25 21 ST UV 25 21 TS VU 21 ST UV", "25 21 25 ST TS 25 UV VU 21 ST UV"),
+    (170, 0, 0, "7:2 a b", "7:2 b a"),
+    (170, 0, 0, "8:3 a b c", "8:3 b a c"),
+    (170, 1, 0, "20:3 kS lS kS", "20:3 kS kS lS"),
+];
+
+#[test]
+fn every_rule_gives_its_right_side() {
+    let mut seen: Vec<u16> = RESULTS.iter().map(|row| row.0).collect();
+    seen.dedup();
+    let all: Vec<u16> = RULES.iter().map(|rule| rule.number).collect();
+    assert_eq!(seen, all, "a row for every rule");
+    for (rule, i, j, part, result) in RESULTS {
+        let (code, got) = step(rule, i, j, &read(part));
+        assert_eq!((code, got), (0, tokens(&read(result))), "rule {rule} on {part}");
+    }
+}
+
+#[test]
+fn unused_indices_are_zero() {
+    for (rule, i, j, part, _) in RESULTS {
+        let way = &RULES[RULES.iter().position(|it| it.number == rule).unwrap()].way;
+        if !matches!(way, Way::Collect { .. }) {
+            assert_eq!(step(rule, i, j + 1, &read(part)).0, 22, "rule {rule}, j");
+        }
+        if matches!(way, Way::Law(_)) {
+            assert_eq!(step(rule, i + 1, j, &read(part)).0, 22, "rule {rule}, i");
+        }
+    }
+}
+
+/// Rule, i, j, a typed part that is no instance.
+const REFUSED: [(u16, u16, u16, &str); 77] = [
+    (1, 0, 0, "7:2 8:1 a b"),
+    (1, 2, 0, "7:2 7:1 a b"),
+    (1, 0, 0, "7:2 a 7:1 b"),
+    (1, 0, 0, "9 9 a"),
+    (2, 0, 0, "7:2 a b"),
+    (2, 0, 0, "8:1 a"),
+    (2, 0, 0, "20:1 kS"),
+    (3, 0, 0, "7:1 a"),
+    (4, 0, 0, "7:1 5"),
+    (4, 0, 0, "7:2 a 5"),
+    (4, 2, 0, "7:2 a 5"),
+    (4, 0, 0, "8:2 5 a"),
+    (5, 0, 0, "7:2 5 a"),
+    (5, 0, 0, "8:2 a 5"),
+    (6, 0, 0, "8:1 6"),
+    (6, 0, 0, "7:2 6 a"),
+    (6, 0, 0, "8:2 5 6"),
+    (7, 0, 0, "8:2 a 7:2 b c"),
+    (7, 0, 0, "8:2 8:2 a b c"),
+    (7, 0, 0, "7:2 7:2 a b c"),
+    (10, 0, 0, "9 6"),
+    (11, 0, 0, "9 5"),
+    (12, 0, 0, "9 8:2 a b"),
+    (13, 0, 0, "9 7:2 a b"),
+    (20, 0, 0, "11 bS 12 S"),
+    (22, 0, 0, "11 bS 19 a kS"),
+    (24, 0, 0, "11 bS 20:2 kS lS"),
+    (26, 0, 0, "11 bS 16 s"),
+    (27, 0, 0, "11 21 bS bU kSU"),
+    (33, 0, 0, "10 s p"),
+    (34, 0, 0, "10 s p"),
+    (40, 0, 0, "19 5 kS"),
+    (41, 0, 0, "19 a kS"),
+    (43, 0, 0, "19 5 bS"),
+    (43, 0, 0, "19 5 ST"),
+    (43, 0, 0, "19 6 kS"),
+    (44, 0, 0, "19 a 13 S"),
+    (45, 0, 0, "19 5 kS"),
+    (45, 0, 0, "19 5 ST"),
+    (46, 0, 0, "19 a 12 S"),
+    (47, 0, 0, "19 5 kS"),
+    (47, 0, 0, "19 5 bS"),
+    (48, 0, 0, "19 a 12 S"),
+    (50, 0, 0, "7:1 a"),
+    (50, 0, 0, "20:2 kS lS"),
+    (51, 0, 0, "20:2 kS kS"),
+    (51, 1, 0, "20:2 kS kS"),
+    (51, 0, 2, "20:2 kS kS"),
+    (51, 0, 1, "20:2 kS lS"),
+    (51, 0, 1, "7:2 a a"),
+    (52, 0, 1, "20:2 19 a kS kS"),
+    (52, 0, 1, "20:2 kS 19 a lS"),
+    (53, 0, 1, "20:2 kS 19 a kS"),
+    (53, 0, 1, "20:2 19 a kS lS"),
+    (54, 0, 1, "20:2 19 a kS 19 b lS"),
+    (54, 0, 1, "20:2 kS 19 b kS"),
+    (55, 0, 0, "20:2 13 S bS"),
+    (55, 0, 0, "20:2 kS 12 S"),
+    (56, 0, 0, "20:2 12 S kS"),
+    (57, 0, 0, "20:1 14 S T"),
+    (64, 0, 0, "18 12 S"),
+    (67, 0, 0, "18 13 S"),
+    (84, 0, 0, "21 kU 12 S"),
+    (85, 0, 0, "21 12 S kU"),
+    (87, 0, 0, "21 bU 13 S"),
+    (88, 0, 0, "21 13 S bU"),
+    (90, 0, 0, "21 14 U V ST"),
+    (91, 0, 0, "21 ST 14 U V"),
+    (108, 0, 0, "22 ST 22 TU kU"),
+    (128, 0, 0, "23 23 bS ST TU"),
+    (152, 0, 0, "25 ST 15 T"),
+    (153, 0, 0, "25 15 S ST"),
+    (160, 0, 0, "25 ST 25 TU UV"),
+    (170, 1, 0, "7:2 a b"),
+    (170, 65535, 0, "7:2 a b"),
+    (170, 0, 0, "10 s p"),
+    (170, 0, 0, "21 kS kU"),
+];
+
+#[test]
+fn what_is_no_instance_is_refused_and_stays() {
+    for (rule, i, j, part) in REFUSED {
+        let term = read(part);
+        assert_eq!(step(rule, i, j, &term), (22, tokens(&term)), "rule {rule} on {part}");
+    }
+}
+
+/// The numbers of document 01, "The rules by number".
+#[test]
+fn the_numbers_are_those_of_the_paper() {
+    let spans: [(&str, u16, &[&str]); 12] = [
+        ("", 1, &["FLATTEN", "ADDSID", "MULSID", "ADDS0", "MULS0", "MULS1", "MULS2"]),
+        ("CONJ", 10, &["0", "1", "2", "3", "4", "5", "6"]),
+        ("DOT", 20, &["0", "1", "2", "3", "4", "5", "6", "7", "8", "9", "10", "11", "12"]),
+        ("DELTA", 33, &["0", "1"]),
+        ("SCR", 40, &["0", "1", "2", "K0", "K1", "B0", "B1", "O0", "O1"]),
+        ("ADD", 50, &["ID", "0", "1", "2", "3", "K0", "B0", "O0"]),
+        (
+            "ADJ",
+            60,
+            &["0", "1", "2", "3", "K0", "K1", "K2", "B0", "B1", "B2", "O0", "O1", "O2", "O3"],
+        ),
+        (
+            "TSR",
+            80,
+            &["0", "1", "2", "3", "K0", "K1", "K2", "B0", "B1", "B2", "O0", "O1", "O2", "O3"],
+        ),
+        ("MULK", 100, &["0", "1", "2", "3", "4", "5", "6", "7", "8", "9", "10", "11"]),
+        ("MULB", 120, &["0", "1", "2", "3", "4", "5", "6", "7", "8", "9", "10", "11"]),
+        ("OUTER", 140, &["0", "1", "2", "3", "4", "5"]),
+        ("MULO", 150, &["0", "1", "2", "3", "4", "5", "6", "7", "8", "9", "10", "11", "12"]),
+    ];
+    let mut expected: Vec<(u16, String)> = Vec::new();
+    for (stem, first, ends) in spans {
+        expected.extend((first..).zip(ends.iter().map(|end| format!("{stem}{end}"))));
+    }
+    expected.push((170, "SWAP".to_string()));
+    let table: Vec<(u16, String)> =
+        RULES.iter().map(|rule| (rule.number, rule.name.to_string())).collect();
+    assert_eq!(table, expected);
+}
