@@ -81,15 +81,15 @@ fn step_text(input: &[u8]) -> Result<String, String> {
 }
 
 /// A typing or step case: declarations, a slice, a length, perhaps a step.
-struct Case {
-    declared: Declarations,
-    slice: Vec<u16>,
-    length: usize,
+pub(crate) struct Case {
+    pub(crate) declared: Declarations,
+    pub(crate) slice: Vec<u16>,
+    pub(crate) length: usize,
     step: Option<Step>,
 }
 
 impl Case {
-    fn read(input: &[u8]) -> Result<Case, String> {
+    pub(crate) fn read(input: &[u8]) -> Result<Case, String> {
         let mut case = Case {
             declared: Declarations::default(),
             slice: vec![0; WORDS],
@@ -147,7 +147,7 @@ pub fn run(folder: &Path) -> io::Result<(usize, Vec<String>)> {
 }
 
 /// The `.in` files of a folder by name; none when there is no such folder.
-fn inputs(folder: &Path) -> io::Result<Vec<PathBuf>> {
+pub(crate) fn inputs(folder: &Path) -> io::Result<Vec<PathBuf>> {
     if !folder.is_dir() {
         return Ok(Vec::new());
     }

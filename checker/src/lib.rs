@@ -10,6 +10,7 @@ pub mod file;
 pub mod gen;
 pub mod matrix;
 pub mod notation;
+pub mod numbers;
 pub mod replay;
 pub mod rules;
 pub mod step;

@@ -3,6 +3,7 @@
 use checker::case::{self, Sort};
 use checker::file::BYTES;
 use checker::gen::{damaged, Gen};
+use checker::numbers;
 use std::io::{self, Read, Write};
 use std::path::Path;
 use std::process::ExitCode;
@@ -13,6 +14,7 @@ checker replay < FILE               the answer to a file
 checker typing < FILE               the answer to a typing case
 checker step < FILE                 the answer to a step case
 checker vectors DIR                 runs the cases under a folder
+checker numbers DIR IN OUT          writes a folder's typing cases and stored answers as numbers
 checker gen SEED COUNT KIND DIR     writes cases; KIND is accepted, damaged, typing or step
 ";
 
@@ -24,6 +26,7 @@ fn main() -> ExitCode {
         ["typing"] => answer(Sort::Typing),
         ["step"] => answer(Sort::Step),
         ["vectors", folder] => vectors(Path::new(folder)),
+        ["numbers", folder, input, output] => numbered(Path::new(folder), input, output),
         ["gen", seed, count, kind, folder] => generate(seed, count, kind, Path::new(folder)),
         _ => Err(USAGE.to_string()),
     };
@@ -58,6 +61,14 @@ fn vectors(folder: &Path) -> Result<(), String> {
         return writeln!(io::stdout(), "{count} cases, all as stored").map_err(told);
     }
     Err(format!("{}\n{} of {count} cases differ", wrong.join("\n"), wrong.len()))
+}
+
+/// Writes a folder's typing cases to one file and their stored answers to
+/// another.
+fn numbered(folder: &Path, input: &str, output: &str) -> Result<(), String> {
+    let (cases, answers) = numbers::typing(folder)?;
+    fs::write(input, cases).map_err(told)?;
+    fs::write(output, answers).map_err(told)
 }
 
 /// Writes cases with this checker's answers beside them.

@@ -1,6 +1,6 @@
 //! The stored cases, and a row for each of them in their README.
 
-use checker::case;
+use checker::{case, numbers};
 use std::fs;
 use std::path::Path;
 
@@ -42,4 +42,15 @@ fn every_case_has_its_row() {
             assert!(table.contains(&row), "no row for {row}");
         }
     }
+}
+
+#[test]
+fn the_typing_program_is_run_on_the_stored_cases() {
+    let root = Path::new(env!("CARGO_MANIFEST_DIR"));
+    let (cases, answers) = numbers::typing(&root.join("vectors")).expect("the cases as numbers");
+    let stored = |name: &str| {
+        fs::read_to_string(root.join("../crates/typing_cases").join(name)).expect(name)
+    };
+    assert_eq!(cases, stored("stdin"), "see `checker numbers` in README.md");
+    assert_eq!(answers, stored("stdout"), "see `checker numbers` in README.md");
 }

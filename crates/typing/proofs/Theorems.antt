@@ -1,0 +1,92 @@
+-- The typing of one term against the published rules: sound, complete, and the place of code 10.
+use mathlib.Core.Path.{_≡_, refl, sym, _∙_, ap}
+use mathlib.Core.Bool.{Bool, true, false}
+use mathlib.Core.List.{List}
+use Prim.Native.Nat.{ℕ, _≤_}
+use native.Mathlib.Omega.{arith}
+use borrow.Author.Tests.{eqb-true, eqb-false}
+use lib.Dec.{eqb}
+use lib.ListN.{length, take}
+use Rattle.term.specs.Parts.{parse}
+use Rattle.term.specs.Terms.{maxWords, partDepth, firstDepth, IsTerm, isTerm}
+use Rattle.term.specs.Trees.{Tree, none, _▹_, words, depth}
+use Rattle.term.proofs.Parsing.{parse-tree}
+use Rattle.term.proofs.TermTest.{term-in, tree-term}
+use Rattle.typing.specs.declared.terms.Typing as A
+use Rattle.typing.specs.Answers.{refuse, typing, answerOf, typingOf, TypedTerm}
+use Rattle.typing.specs.Declarations.{treeIn, contextIn, namesIn, goodDeclarations}
+use Rattle.typing.specs.First.{HasSort, FirstUntyped}
+use Rattle.typing.specs.Rules.{IsType}
+use Rattle.typing.specs.Sorts.{Sort, index, basis, scalar, ket, bra, operator}
+use Rattle.typing.specs.TypeOf.{Typed, typed, untyped, typeOf}
+use Rattle.typing.proofs.Answering.{here, wrong-size, bad-declarations, no-term, the-term}
+use Rattle.typing.proofs.Complete.{complete}
+use Rattle.typing.proofs.Entries.{well-formed}
+use Rattle.typing.proofs.Place.{first-untyped, no-sort}
+use Rattle.typing.proofs.Sound.{sound}
+
+-- the answer on the words of a term that passes tests 1, 7 and 8
+answer-on : (ds ws : List ℕ) (n : ℕ) (t : Tree) → length ws ≡ maxWords → goodDeclarations ds ≡ true → n ≤ length ws → words t ≡ take n ws → IsTerm (namesIn ds) t
+    → typingOf ds ws n ≡ answerOf n (depth t) (typeOf (contextIn ds) 0 t)
+unfolding partDepth firstDepth treeIn
+answer-on ds ws n t size good inside is term =
+    let p : parse (take n ws) ≡ t ▹ none = sym (ap parse is) ∙ parse-tree t (term .formed) in
+    let test : isTerm (namesIn ds) ws n ≡ true = term-in (namesIn ds) ws n inside ∙ rw (← is) (tree-term (namesIn ds) t term) in
+    the-term ds ws n size good test ∙ rw p
+
+-- only a type is accepted
+accepted-sort : (n d : ℕ) (T : Typed) → answerOf n d T .code ≡ 0 → (S : Sort) × (T ≡ typed S) × IsType S
+unfolding answerOf refuse
+accepted-sort n d (untyped k) e = absurd (omega arith)
+accepted-sort n d (typed (index σ)) e = absurd (omega arith)
+accepted-sort n d (typed (basis σ)) e = absurd (omega arith)
+accepted-sort n d (typed scalar) e = (scalar, refl, tt)
+accepted-sort n d (typed (ket σ)) e = (ket σ, refl, tt)
+accepted-sort n d (typed (bra σ)) e = (bra σ, refl, tt)
+accepted-sort n d (typed (operator σ τ)) e = (operator σ τ, refl, tt)
+
+module _ (ds ws : List ℕ) (n : ℕ) where
+  -- ---- complete: a typed term is accepted, with its length, its depth and its type
+  pub complete-entry : (t : Tree) (S : Sort) → TypedTerm ds ws n t S → typingOf ds ws n ≡ answerOf n (depth t) (typed S)
+  complete-entry t S h =
+      answer-on ds ws n t (h .size) (h .good) (h .inside) (h .is) (h .term)
+      ∙ ap (answerOf n (depth t)) (complete (contextIn ds) (h .rules) 0)
+
+  -- ---- sound: what is accepted is a term, and of that type by the rules
+  not-refused : (c at : ℕ) → typingOf ds ws n ≡ refuse c at → typingOf ds ws n .code ≡ 0 → c ≡ 0
+  unfolding refuse
+  not-refused c at e h = sym (ap (λ (r : A.Typing). r .code) e) ∙ h
+
+  sound-by : (a b c : Bool) → eqb (length ws) maxWords ≡ a → goodDeclarations ds ≡ b → isTerm (namesIn ds) ws n ≡ c → typingOf ds ws n .code ≡ 0
+      → (t : Tree) × (S : Sort) × TypedTerm ds ws n t S
+  sound-by false b c size good test e = absurd (omega (arith, not-refused 1 0 (wrong-size ds ws n (eqb-false _ _ size)) e))
+  sound-by true false c size good test e = absurd (omega (arith, not-refused 7 0 (bad-declarations ds ws n (eqb-true _ _ size) good) e))
+  sound-by true true false size good test e = absurd (omega (arith, not-refused 8 0 (no-term ds ws n (eqb-true _ _ size) good test) e))
+  sound-by true true true size good test e =
+      let h = here (namesIn ds) ws n test in
+      let a = answer-on ds ws n (h .tree) (eqb-true _ _ size) good (h .inside) (h .is) (h .term) in
+      let s = accepted-sort n _ _ (sym (ap (λ (r : A.Typing). r .code) a) ∙ e) in (
+        h .tree,
+        s .0,
+        record {
+          size = eqb-true _ _ size;
+          good = good;
+          inside = h .inside;
+          is = h .is;
+          term = h .term;
+          isType = s .2;
+          rules = sound (well-formed ds good) 0 (h .tree) (s .1);
+        },
+      )
+
+  pub sound-entry : typingOf ds ws n .code ≡ 0 → (t : Tree) × (S : Sort) × TypedTerm ds ws n t S
+  sound-entry e = sound-by _ _ _ refl refl refl e
+
+  -- ---- a term without a sort is refused with code 10 at the place that document 01 fixes
+  pub place-entry : (t : Tree) → length ws ≡ maxWords → goodDeclarations ds ≡ true → n ≤ length ws → words t ≡ take n ws → IsTerm (namesIn ds) t
+      → (HasSort (contextIn ds) t → ⊥) → (k : ℕ) × FirstUntyped (contextIn ds) t k × (typingOf ds ws n ≡ refuse 10 k)
+  unfolding answerOf
+  place-entry t size good inside is term h =
+      let W = well-formed ds good in
+      let u = no-sort W t h in
+      (u .0, first-untyped W t (u .0) (u .1), answer-on ds ws n t size good inside is term ∙ ap (answerOf n (depth t)) (u .1))

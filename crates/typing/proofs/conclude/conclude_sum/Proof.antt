@@ -1,0 +1,42 @@
+-- The first child's class is tested, then whether the others are like it.
+use mathlib.Core.Path.{sym, _∙_}
+use borrow.Author.Needs.{needs}
+use Rattle.typing.specs.Conclude.{likeOf}
+use Rattle.typing.proofs.conclude.conclude_sum.Statement.{statement}
+use Rattle.typing.proofs.conclude.conclude_sum.Tie as tie
+
+child-class-requires : tie.Need-child-class-requires
+child-class-requires c κs = search needs
+
+fits-requires : tie.Need-fits-requires
+fits-requires c κs = search needs
+
+returns : tie.Need-returns
+unfolding likeOf
+returns c = rw (← c .before .before .before .child-class .ensures, sym (c .before .before .fits2 .ensures) ∙ c .before .if1 .taken, c .if2 .taken)
+
+untyped-requires : tie.Need-untyped-requires
+untyped-requires c κs = search needs
+
+returns-2 : tie.Need-returns-2
+unfolding likeOf
+returns-2 c = rw (c .untyped .ensures, ← c .before .before .before .before .child-class .ensures, sym (c .before .before .before .fits2 .ensures) ∙ c .before .before .if1 .taken, c .before .if2 .left)
+
+untyped-requires-2 : tie.Need-untyped-requires-2
+untyped-requires-2 c κs = search needs
+
+returns-3 : tie.Need-returns-3
+unfolding likeOf
+returns-3 c = rw (c .untyped2 .ensures, ← c .before .before .before .child-class .ensures, sym (c .before .before .fits2 .ensures) ∙ c .before .if1 .left)
+
+pub conclude-sum-spec : {M : Type 1} → statement M
+conclude-sum-spec =
+    tie.close
+    (tie.spec
+    child-class-requires
+    fits-requires
+    returns
+    untyped-requires
+    returns-2
+    untyped-requires-2
+    returns-3)

@@ -1,0 +1,28 @@
+-- Each answer is the first condition of the definition that fails, or the last one.
+use mathlib.Core.Path.{sym, _∙_}
+use borrow.Author.Tests.{not-true, not-false}
+use borrow.Author.Needs.{needs}
+use Rattle.typing.proofs.Entries.{variable-kind, variable-first, variable-second}
+use Rattle.typing.proofs.declarations.is_variable.Statement.{statement}
+use Rattle.typing.proofs.declarations.is_variable.Tie as tie
+
+returns : tie.Need-returns
+returns c = sym (variable-kind _ _ _ _ (c .if1 .taken))
+
+is-wanted-requires : tie.Need-is-wanted-requires
+is-wanted-requires c κs = search needs
+
+returns-2 : tie.Need-returns-2
+returns-2 c = sym (variable-first _ _ _ _ (c .before .before .if1 .left) (sym (c .before .is-wanted .ensures) ∙ not-true _ (c .if2 .taken)))
+
+is-wanted-requires-2 : tie.Need-is-wanted-requires-2
+is-wanted-requires-2 c κs = search needs
+
+returns-3 : tie.Need-returns-3
+returns-3 c =
+    c .is-wanted2 .ensures
+    ∙ sym (variable-second _ _ _ _ (c .before .before .before .if1 .left) (sym (c .before .before .is-wanted .ensures) ∙ not-false _ (c .before .if2 .left)))
+
+pub is-variable-spec : {M : Type 1} → statement M
+is-variable-spec =
+    tie.close (tie.spec returns is-wanted-requires returns-2 is-wanted-requires-2 returns-3)

@@ -1,0 +1,79 @@
+-- The answer of "the typing of one term": document 01, "What comes out, by whose doing".
+use mathlib.Core.Path.{_≡_}
+use mathlib.Core.Bool.{true, cond}
+use mathlib.Core.List.{List, []}
+use Prim.Native.Nat.{ℕ, _≤_}
+use lib.Dec.{eqb}
+use lib.ListN.{length, take}
+use Rattle.term.specs.Parts.{parse}
+use Rattle.term.specs.Terms.{maxWords, partDepth, IsTerm, isTerm}
+use Rattle.term.specs.Trees.{Tree, words}
+use Rattle.typing.specs.declared.sorts.Sorted as S
+use Rattle.typing.specs.declared.terms.Kind as K
+use Rattle.typing.specs.declared.terms.Kind.the-variants as Kinds
+use Rattle.typing.specs.declared.terms.TermType as T
+use Rattle.typing.specs.declared.terms.Typing as A
+use Rattle.typing.specs.Declarations.{treeIn, contextIn, namesIn, goodDeclarations}
+use Rattle.typing.specs.Records.{numberOf, pad}
+use Rattle.typing.specs.Rules.{_⊢_∶_, IsType}
+use Rattle.typing.specs.Sorts.{Sort, index, basis, scalar, ket, bra, operator}
+use Rattle.typing.specs.TypeOf.{Typed, typed, untyped, typeOf}
+
+-- 01: "A type is a record: its kind, which is scalar, ket, bra or operator and carries the index lengths, and the index words beside it"
+unfoldable pub typeRecord : K.Kind → List ℕ → List ℕ → T.TermType
+typeRecord k rows columns = record { kind = k; rows = pad rows; columns = pad columns }
+
+-- 01: "at every code from 1 to 19, a length or depth is 0 and a type is scalar", "A field that a code does not name is 0"
+unfoldable pub refuse : ℕ → ℕ → A.Typing
+unfolding typeRecord
+refuse code at = record { code = code; side = 0; step = 0; at = at; length = 0; depth = 0; of = typeRecord Kinds.Scalar [] [] }
+
+-- a typed term of so many words and so deep
+unfoldable pub typing : ℕ → ℕ → K.Kind → List ℕ → List ℕ → A.Typing
+unfolding typeRecord
+typing n d k rows columns = record { code = 0; side = 0; step = 0; at = 0; length = n; depth = d; of = typeRecord k rows columns }
+
+-- 01: "10 no type", "11 a side is an index or a basis"
+unfoldable pub answerOf : ℕ → ℕ → Typed → A.Typing
+unfolding refuse typing
+answerOf n d (untyped k) = refuse 10 k
+answerOf n d (typed (index σ)) = refuse 11 0
+answerOf n d (typed (basis σ)) = refuse 11 0
+answerOf n d (typed scalar) = typing n d Kinds.Scalar [] []
+answerOf n d (typed (ket σ)) = typing n d (Kinds.Ket (length (words σ))) (words σ) []
+answerOf n d (typed (bra σ)) = typing n d (Kinds.Bra (length (words σ))) [] (words σ)
+answerOf n d (typed (operator σ τ)) = typing n d (Kinds.Operator (length (words σ)) (length (words τ))) (words σ) (words τ)
+
+-- 01: "lent declarations, one work slice and a length. They test 1; 7 for bad declarations; 8, also for a length that is not the term's; 10; 11"
+unfoldable pub typingOf : List ℕ → List ℕ → ℕ → A.Typing
+unfolding refuse answerOf goodDeclarations isTerm namesIn partDepth typeOf contextIn treeIn
+typingOf ds ws n =
+    cond (eqb (length ws) maxWords)
+    (cond (goodDeclarations ds)
+    (cond (isTerm (namesIn ds) ws n)
+    (answerOf n (partDepth (take n ws) 0) (typeOf (contextIn ds) 0 (treeIn (parse (take n ws)))))
+    (refuse 8 0))
+    (refuse 7 0))
+    (refuse 1 0)
+
+-- ---- the same from the record that the code holds of a sort
+unfoldable pub accept : ℕ → ℕ → K.Kind → S.Sorted → A.Typing
+accept n d k s = record { code = 0; side = 0; step = 0; at = 0; length = n; depth = d; of = record { kind = k; rows = s .left .words; columns = s .right .words } }
+
+unfoldable pub answerTo : ℕ → ℕ → S.Sorted → A.Typing
+unfolding accept refuse
+answerTo n d s =
+    cond (eqb (numberOf (s .class)) 3) (accept n d Kinds.Scalar s)
+    (cond (eqb (numberOf (s .class)) 4) (accept n d (Kinds.Ket (s .left .len)) s)
+    (cond (eqb (numberOf (s .class)) 5) (accept n d (Kinds.Bra (s .right .len)) s)
+    (cond (eqb (numberOf (s .class)) 6) (accept n d (Kinds.Operator (s .left .len) (s .right .len)) s) (refuse 11 0))))
+
+-- ---- what an accepted answer means by the published rules: the first n words of the slice are a term, and it has a type
+pub record TypedTerm (ds ws : List ℕ) (n : ℕ) (t : Tree) (S : Sort) : Type 0 where
+  pub size : length ws ≡ maxWords
+  pub good : goodDeclarations ds ≡ true
+  pub inside : n ≤ length ws
+  pub is : words t ≡ take n ws
+  pub term : IsTerm (namesIn ds) t
+  pub isType : IsType S
+  pub rules : contextIn ds ⊢ t ∶ S

@@ -1,0 +1,7 @@
+mod conclude;
+pub mod constructor;
+pub mod declarations;
+mod infer;
+mod lookup;
+mod sorts;
+pub mod terms;
