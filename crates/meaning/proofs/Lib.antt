@@ -1,0 +1,6 @@
+-- The laws of meaning that the crates above cite.
+pub mod Shapes
+pub mod Congruence
+pub mod Theorems
+pub mod Fitting
+mod Samples

@@ -1,0 +1,62 @@
+-- The witnesses of `specs/Statements`.
+use mathlib.Core.Path.{_≡_}
+use mathlib.Core.Logic.{_↔_}
+use Rattle.algebra.specs.Semirings.{StarSemiring}
+use Rattle.algebra.specs.Matrices.{Matrix, _≈_}
+use Rattle.algebra.specs.Gaussian.{Gaussian}
+use Rattle.algebra.proofs.Gaussian.{gaussian}
+use Rattle.typing.specs.Sorts.{Sort, index, basis, scalar, ket, bra, operator}
+use Rattle.typing.specs.Rules.{IsType}
+use Rattle.typing.proofs.Complete.{unique}
+use Rattle.meaning.specs.Choices.{Choice, Meaning}
+use Rattle.meaning.specs.Meaning.{mean}
+use Rattle.meaning.specs.Sorted.{Shaped, Proper, Same}
+use Rattle.meaning.specs.Statements.{KeepsShape, Congruent, EqualNumbers, GaussianShape, GaussianCongruent}
+use Rattle.meaning.proofs.Shapes.{shape}
+use Rattle.meaning.proofs.Congruence.{replace-serves}
+
+pub keeps-shape : {R : Type 0} (𝓡 : StarSemiring R) → KeepsShape 𝓡
+keeps-shape 𝓡 Γ χ W F t S d = shape 𝓡 W F d
+
+pub congruent : {R : Type 0} (𝓡 : StarSemiring R) → Congruent 𝓡
+congruent 𝓡 Γ χ W F t S at s u Q d e old new same =
+    replace-serves 𝓡 W F s u (λ P p. let z : Q ≡ P = unique Γ old p in rw (← z) (new, same)) t at e S d
+
+-- ---- at a type, a meaning is its matrix
+module _ {R : Type 0} (𝓡 : StarSemiring R) where
+  proper-shaped : (χ : Choice R) (S : Sort) (x : Meaning R) → IsType S → Proper 𝓡 χ S x → Shaped 𝓡 χ S (x .matrix)
+  proper-shaped χ (index σ) x h p = absurd h
+  proper-shaped χ (basis σ) x h p = absurd h
+  proper-shaped χ scalar x h p = p
+  proper-shaped χ (ket σ) x h p = p
+  proper-shaped χ (bra σ) x h p = p
+  proper-shaped χ (operator σ τ) x h p = p
+
+pub same-alike : {R : Type 0} (S : Sort) (x y : Meaning R) → IsType S → Same S x y ↔ (x .matrix ≈ y .matrix)
+same-alike (index σ) x y h = absurd h
+same-alike (basis σ) x y h = absurd h
+same-alike scalar x y h = (λ p. p, λ p. p)
+same-alike (ket σ) x y h = (λ p. p, λ p. p)
+same-alike (bra σ) x y h = (λ p. p, λ p. p)
+same-alike (operator σ τ) x y h = (λ p. p, λ p. p)
+
+alike-numbers : (A B : Matrix Gaussian) → (A ≈ B) ↔ EqualNumbers A B
+alike-numbers A B = (
+  λ p. record {
+    rows = p .rows;
+    columns = p .columns;
+    re = λ i j h k. cc (p .entries i j h k);
+    im = λ i j h k. cc (p .entries i j h k);
+  },
+  λ q. record { rows = q .rows; columns = q .columns; entries = λ i j h k. λ l. record { re = q .re i j h k l; im = q .im i j h k l } },
+)
+
+pub gaussian-shape : GaussianShape
+unfolding mean
+gaussian-shape Γ χ W F t S h d = proper-shaped gaussian χ S _ h (keeps-shape gaussian Γ χ W F t S d)
+
+pub gaussian-congruent : GaussianCongruent
+unfolding mean
+gaussian-congruent Γ χ W F t S at s u Q h k d e old new same =
+    let r = congruent gaussian Γ χ W F t S at s u Q d e old new (same-alike Q _ _ k .1 (alike-numbers _ _ .1 same)) in
+    (r .0, alike-numbers _ _ .0 (same-alike S _ _ h .0 (r .1)))

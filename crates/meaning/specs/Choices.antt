@@ -1,0 +1,37 @@
+-- Choices, and what a part of a term stands for.
+use Prim.Native.Nat.{ℕ}
+use Rattle.algebra.specs.Semirings.{StarSemiring}
+use Rattle.algebra.specs.Matrices.{Matrix, zeros}
+
+-- 01: "A choice is a dimension for each type name, an index for each basis name and, for each variable, the matrix, shaped as declared, that it stands for"
+pub record Choice (R : Type 0) : Type 0 where
+  pub dimension : ℕ → ℕ
+  pub position : ℕ → ℕ
+  pub matrix : ℕ → Matrix R
+
+-- What a part stands for: an index for its dimension, a basis for a position below the dimension of its index, a term for a matrix
+pub record Meaning (R : Type 0) : Type 0 where
+  pub dimension : ℕ
+  pub position : ℕ
+  pub matrix : Matrix R
+
+-- what each name stands for
+pub record Names (R : Type 0) : Type 0 where
+  pub types : ℕ → Meaning R
+  pub bases : ℕ → Meaning R
+  pub variables : ℕ → Meaning R
+
+module _ {R : Type 0} (𝓡 : StarSemiring R) where
+  unfoldable pub a-basis : ℕ → ℕ → Meaning R
+  a-basis d p = record { dimension = d; position = p; matrix = zeros 𝓡 0 0 }
+
+  unfoldable pub an-index : ℕ → Meaning R
+  unfolding a-basis
+  an-index d = a-basis d 0
+
+  unfoldable pub nothing : Meaning R
+  unfolding an-index
+  nothing = an-index 0
+
+unfoldable pub a-term : {R : Type 0} → Matrix R → Meaning R
+a-term A = record { dimension = 0; position = 0; matrix = A }

@@ -1,0 +1,46 @@
+-- What is proved of meanings, for every commutative semiring with an involution, and once more for the Gaussian integers.
+use mathlib.Core.Path.{_≡_}
+use Prim.Native.Nat.{ℕ, _<_}
+use Rattle.algebra.specs.Semirings.{StarSemiring}
+use Rattle.algebra.specs.Matrices.{Matrix, _≈_}
+use Rattle.algebra.specs.Gaussian.{Gaussian}
+use Rattle.algebra.proofs.Gaussian.{gaussian}
+use Rattle.term.specs.Trees.{Tree, found, subtree, replace}
+use Rattle.typing.specs.Sorts.{Sort, Context}
+use Rattle.typing.specs.Rules.{_⊢_∶_, IsType, WellFormed}
+use Rattle.meaning.specs.Choices.{Choice}
+use Rattle.meaning.specs.Meaning.{stands, mean}
+use Rattle.meaning.specs.Sorted.{Shaped, Proper, Fits, Same}
+
+module _ {R : Type 0} (𝓡 : StarSemiring R) where
+  -- a part of a sort stands for what its sort says: a term has the shape of its type, a basis lies below its dimension
+  abbrev pub KeepsShape : Type 0
+  KeepsShape = (Γ : Context) (χ : Choice R) → WellFormed Γ → Fits 𝓡 Γ χ → (t : Tree) (S : Sort) → Γ ⊢ t ∶ S → Proper 𝓡 χ S (stands 𝓡 Γ χ t)
+
+  -- where the part at an offset gives way to one of its sort that stands for the same, the whole keeps its sort and stands for the same
+  abbrev pub Congruent : Type 0
+  Congruent =
+      (Γ : Context) (χ : Choice R) → WellFormed Γ → Fits 𝓡 Γ χ
+      → (t : Tree) (S : Sort) (at : ℕ) (s u : Tree) (Q : Sort)
+      → Γ ⊢ t ∶ S → subtree t at ≡ found s → Γ ⊢ s ∶ Q → Γ ⊢ u ∶ Q → Same Q (stands 𝓡 Γ χ s) (stands 𝓡 Γ χ u)
+      → (Γ ⊢ replace t at u ∶ S) × Same S (stands 𝓡 Γ χ t) (stands 𝓡 Γ χ (replace t at u))
+
+-- ---- over the Gaussian integers
+-- equal in shape, and in the number at each row and column: both its whole numbers
+pub record EqualNumbers (A B : Matrix Gaussian) : Type 0 where
+  pub rows : A .rows ≡ B .rows
+  pub columns : A .columns ≡ B .columns
+  pub re : (i j : ℕ) → i < A .rows → j < A .columns → A .entry i j .re ≡ B .entry i j .re
+  pub im : (i j : ℕ) → i < A .rows → j < A .columns → A .entry i j .im ≡ B .entry i j .im
+
+abbrev pub GaussianShape : Type 0
+GaussianShape =
+    (Γ : Context) (χ : Choice Gaussian) → WellFormed Γ → Fits gaussian Γ χ
+    → (t : Tree) (S : Sort) → IsType S → Γ ⊢ t ∶ S → Shaped gaussian χ S (mean gaussian Γ χ t)
+
+abbrev pub GaussianCongruent : Type 0
+GaussianCongruent =
+    (Γ : Context) (χ : Choice Gaussian) → WellFormed Γ → Fits gaussian Γ χ
+    → (t : Tree) (S : Sort) (at : ℕ) (s u : Tree) (Q : Sort) → IsType S → IsType Q
+    → Γ ⊢ t ∶ S → subtree t at ≡ found s → Γ ⊢ s ∶ Q → Γ ⊢ u ∶ Q → EqualNumbers (mean gaussian Γ χ s) (mean gaussian Γ χ u)
+    → (Γ ⊢ replace t at u ∶ S) × EqualNumbers (mean gaussian Γ χ t) (mean gaussian Γ χ (replace t at u))
