@@ -1,10 +1,10 @@
 -- Being alike is an equivalence, and the operations keep it.
 use mathlib.Core.Path.{_≡_, refl, sym, _∙_, ap}
-use Prim.Native.Nat.{ℕ, _+_, _*_, _/_, _%_, _<_, _≤_}
+use Prim.Native.Nat.{ℕ}
 use native.Mathlib.Omega.{arith}
 use Rattle.algebra.specs.Semirings.{StarSemiring}
 use Rattle.algebra.specs.Sums.{sum}
-use Rattle.algebra.specs.Matrices.{Matrix, _≈_, number, zeros, identity, unit-column, unit-row, scalar, add, scale, mul, adjoint, kronecker}
+use Rattle.algebra.specs.Matrices.{Matrix, _≈_, number, add, scale, mul, adjoint, kronecker}
 use Rattle.algebra.proofs.Sums.{sum-ext}
 use Rattle.algebra.proofs.Digits.{high, low}
 

@@ -1,6 +1,5 @@
 -- A number below m · n as a pair of digits: the high one below m, the low one below n.
-use mathlib.Core.Path.{_≡_}
-use Prim.Native.Nat.{ℕ, zero, suc, _+_, _*_, _/_, _%_, _<_}
+use Prim.Native.Nat.{ℕ, zero, suc, _*_, _/_, _%_, _<_}
 use native.Mathlib.Nat.{mul-zero, mod-lt, div-lt-iff-lt-mul}
 use native.Mathlib.Omega.{arith}
 

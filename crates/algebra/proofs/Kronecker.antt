@@ -1,9 +1,8 @@
 -- Laws of the Kronecker product.
-use mathlib.Core.Path.{_≡_, refl, sym, _∙_, ap}
+use mathlib.Core.Path.{_≡_, refl, _∙_, ap}
 use Prim.Native.Nat.{ℕ, _+_, _*_, _/_, _%_, _<_}
 use native.Mathlib.Nat.{div-add-mod'}
 use Rattle.algebra.specs.Semirings.{StarSemiring}
-use Rattle.algebra.specs.Sums.{sum}
 use Rattle.algebra.specs.Matrices.{Matrix, _≈_, kronecker-delta, zeros, identity, unit-column, unit-row, add, scale, mul, adjoint, kronecker}
 use Rattle.algebra.proofs.Semirings as S
 use Rattle.algebra.proofs.Digits.{low}

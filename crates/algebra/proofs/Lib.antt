@@ -10,5 +10,6 @@ pub mod Linear
 pub mod Products
 pub mod Scalars
 pub mod Kronecker
+pub mod Combined
 mod Integers
 pub mod Gaussian

@@ -1,8 +1,8 @@
 -- Laws that hold entry by entry: sums, scaling, adjoints.
-use mathlib.Core.Path.{_≡_, refl, sym, _∙_, ap}
+use mathlib.Core.Path.{_≡_, refl, sym, _∙_}
 use Prim.Native.Nat.{ℕ}
 use Rattle.algebra.specs.Semirings.{StarSemiring}
-use Rattle.algebra.specs.Matrices.{Matrix, _≈_, kronecker-delta, zeros, identity, unit-column, unit-row, add, scale, adjoint}
+use Rattle.algebra.specs.Matrices.{Matrix, _≈_, zeros, identity, unit-column, unit-row, add, scale, adjoint}
 use Rattle.algebra.proofs.Semirings as S
 use Rattle.algebra.proofs.Alike.{≈-sym, ≈-trans, everywhere, adjoint-≈}
 use Rattle.algebra.proofs.Deltas.{delta-sym, conj-delta}

@@ -1,6 +1,5 @@
 -- Laws of the matrix product.
 use mathlib.Core.Path.{_≡_, refl, sym, _∙_, ap}
-use mathlib.Core.Logic.{_≢_}
 use Prim.Native.Nat.{ℕ, _<_}
 use Rattle.algebra.specs.Semirings.{StarSemiring}
 use Rattle.algebra.specs.Sums.{sum}

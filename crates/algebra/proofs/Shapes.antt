@@ -2,7 +2,7 @@
 use mathlib.Core.Path.{_≡_, refl, sym, _∙_}
 use Prim.Native.Nat.{ℕ, _*_}
 use Rattle.algebra.specs.Semirings.{StarSemiring}
-use Rattle.algebra.specs.Matrices.{Matrix, _≈_, Shape, zeros, identity, unit-column, unit-row, scalar, add, scale, mul, adjoint, kronecker}
+use Rattle.algebra.specs.Matrices.{Matrix, Shape, zeros, identity, unit-column, unit-row, scalar, add, scale, mul, adjoint, kronecker}
 
 module _ {R : Type 0} {A B : Matrix R} {m n k : ℕ} where
   pub same-rows : Shape A m n → Shape B m k → A .rows ≡ B .rows

@@ -3,7 +3,6 @@ use mathlib.Core.Path.{_≡_, refl}
 use mathlib.Core.Option.{Option, some, none}
 use Prim.Native.Nat.{ℕ, _≤_, _<_}
 use native.Mathlib.Nat.{one-le-mul}
-use native.Mathlib.Omega.{arith}
 use lib.ListN.{getElem?}
 use Rattle.algebra.specs.Semirings.{StarSemiring}
 use Rattle.algebra.specs.Matrices.{Matrix, zeros}

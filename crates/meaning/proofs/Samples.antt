@@ -5,7 +5,7 @@ use Prim.Native.Nat.{ℕ}
 use lib.IntN.{ℤ, pos, negsuc}
 use lib.ListN.{getD}
 use Rattle.algebra.specs.Sums.{sum}
-use Rattle.algebra.specs.Matrices.{Matrix, Shape, number, kronecker-delta, zeros, identity as identity-matrix, unit-column, unit-row, scalar as scalar-matrix, add as add-matrix, scale as scale-matrix, mul, adjoint as adjoint-matrix, kronecker}
+use Rattle.algebra.specs.Matrices.{Matrix, number, kronecker-delta, zeros, identity as identity-matrix, unit-column, unit-row, scalar as scalar-matrix, add as add-matrix, scale as scale-matrix, mul, adjoint as adjoint-matrix, kronecker}
 use Rattle.algebra.specs.Gaussian.{Gaussian, add as add-numbers, mul as multiply-numbers, conj}
 use Rattle.algebra.proofs.Gaussian.{gaussian}
 use Rattle.term.specs.Heads.{Label, type-name, basis-name, variable, index-product, pair, scalar-one, scalar-sum, scalar-product, conjugate, delta, dot, zero-operator, identity, basis-ket, basis-bra, adjoint, scale, add, tensor, mulk, outer, mulo}

@@ -40,7 +40,7 @@ same-alike (ket σ) x y h = (λ p. p, λ p. p)
 same-alike (bra σ) x y h = (λ p. p, λ p. p)
 same-alike (operator σ τ) x y h = (λ p. p, λ p. p)
 
-alike-numbers : (A B : Matrix Gaussian) → (A ≈ B) ↔ EqualNumbers A B
+pub alike-numbers : (A B : Matrix Gaussian) → (A ≈ B) ↔ EqualNumbers A B
 alike-numbers A B = (
   λ p. record {
     rows = p .rows;

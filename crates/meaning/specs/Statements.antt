@@ -2,7 +2,7 @@
 use mathlib.Core.Path.{_≡_}
 use Prim.Native.Nat.{ℕ, _<_}
 use Rattle.algebra.specs.Semirings.{StarSemiring}
-use Rattle.algebra.specs.Matrices.{Matrix, _≈_}
+use Rattle.algebra.specs.Matrices.{Matrix}
 use Rattle.algebra.specs.Gaussian.{Gaussian}
 use Rattle.algebra.proofs.Gaussian.{gaussian}
 use Rattle.term.specs.Trees.{Tree, found, subtree, replace}

@@ -114,7 +114,7 @@ short-of : {S : Sort} (σ : Tree) (c : Conclusion) → short σ c ≡ gives S �
 unfolding short
 short-of σ c e = let r = cond-of _ c e in (leb-true _ _ (r .0), r .1)
 
-same-words-eq : (vs ws : List ℕ) → sameWords vs ws ≡ true → vs ≡ ws
+pub same-words-eq : (vs ws : List ℕ) → sameWords vs ws ≡ true → vs ≡ ws
 unfolding sameWords
 same-words-eq [] [] e = refl
 same-words-eq [] (w ∷ ws) e = cc

@@ -1,0 +1,185 @@
+-- Each rule of the table keeps the meaning of a typed part.
+use mathlib.Core.Path.{_≡_}
+use mathlib.Core.Option.{some}
+use Prim.Native.Nat.{ℕ}
+use native.Mathlib.Omega.{arith}
+use Rattle.algebra.specs.Semirings.{StarSemiring}
+use Rattle.algebra.specs.Matrices.{_≈_}
+use Rattle.term.specs.Heads.{Label, scalar-sum, scalar-product}
+use Rattle.term.specs.Trees.{Tree, Forest, node, none as no-tree, _▹_, _⧺_, count}
+use Rattle.typing.specs.Sorts.{Sort, Context}
+use Rattle.typing.specs.Rules.{_⊢_∶_, WellFormed}
+use Rattle.meaning.specs.Choices.{Choice}
+use Rattle.meaning.specs.Sorted.{Fits}
+use Rattle.rules.specs.Patterns.{Pattern}
+use Rattle.rules.specs.Table.{Kind, child, child-i, Summand, Rule, _⇒_▷_, spreading, removing, absorbing, merging, collecting, swapping, table, ruleOf}
+use Rattle.rules.specs.Instances.{spread, Instance, equals, spreads, removes, absorbs, merges, collects, swaps}
+use Rattle.rules.proofs.Every.{Every, _⨾_, every-rule}
+use Rattle.rules.proofs.FamilyMeanings.{swap-means, merge-means, remove-means, collect-means, unit-value, absorb-means}
+use Rattle.rules.proofs.Forests.{Fitting, scalar-zeros, scalar-ones, ket-zeros, bra-zeros, operator-zeros, fitting-chain}
+use Rattle.rules.proofs.Lines.{Law, given, value}
+use Rattle.rules.proofs.Meanings.{means-2, means-3, means-10, means-11, means-14, means-15, means-16, means-20, means-21, means-22, means-23, means-26, means-27, means-28, means-29, means-30, means-31, means-32, means-33, means-34, means-40, means-41, means-43, means-44, means-45, means-46, means-47, means-48, means-50, means-60, means-61, means-63, means-64, means-65, means-66, means-67, means-68, means-69, means-70, means-71, means-72, means-73, means-80, means-81, means-84, means-85, means-86, means-87, means-88, means-89, means-90, means-91, means-92, means-93, means-100, means-101, means-102, means-103, means-104, means-107, means-108, means-109, means-110, means-111, means-120, means-121, means-122, means-123, means-124, means-127, means-128, means-129, means-130, means-131, means-140, means-141, means-142, means-143, means-150, means-151, means-152, means-153, means-154, means-155, means-156, means-157, means-160, means-161, means-162}
+use Rattle.rules.proofs.Spreading.{First, Second, product-any, conjugate-sum, conjugate-product, dot-first, dot-second, scale-second, adjoint-first, tensor-first, tensor-second, mulk-first, mulk-second, mulb-first, mulb-second, outer-first, outer-second, mulo-first, mulo-second}
+
+module _ {R : Type 0} (𝓡 : StarSemiring R) {Γ : Context} {χ : Choice R} (W : WellFormed Γ) (F : Fits 𝓡 Γ χ) where
+  abbrev pub RuleMeans : Rule → Type 0
+  RuleMeans r = (i j : ℕ) (p q : Tree) (S : Sort) → Instance Γ r i j p q → Γ ⊢ p ∶ S → value Γ 𝓡 χ p ≈ value Γ 𝓡 χ q
+
+  equation : {k : Kind} {l r : Pattern} → Law Γ (λ p q S. Γ ⊢ p ∶ S → value Γ 𝓡 χ p ≈ value Γ 𝓡 χ q) (some (k ⇒ l ▷ r)) → RuleMeans (k ⇒ l ▷ r)
+  equation {k} {l} {r} law i j p q S (equals θ w) d = given Γ (λ p q S. Γ ⊢ p ∶ S → value Γ 𝓡 χ p ≈ value Γ 𝓡 χ q) k l r law θ S w d
+
+  spreading-first : {l s r : Label} → First 𝓡 W F l s r → RuleMeans (spreading l (child 0) s r)
+  unfolding _⧺_ count
+  spreading-first law i j p q S (spreads no-tree f a h) d = law S f a d
+  spreading-first law i j p q S (spreads (t ▹ b) f a h) d = absurd (omega (arith, h .1))
+
+  spreading-second : {l s r : Label} → Second 𝓡 W F l s r → RuleMeans (spreading l (child 1) s r)
+  unfolding _⧺_ count
+  spreading-second law i j p q S (spreads no-tree f a h) d = absurd (omega (arith, h .1))
+  spreading-second law i j p q S (spreads (t ▹ no-tree) f a h) d = law S t f a d
+  spreading-second law i j p q S (spreads (t ▹ u ▹ b) f a h) d = absurd (omega (arith, h .1))
+
+  spreading-any : ((S : Sort) (b f a : Forest) → Γ ⊢ node scalar-product (b ⧺ node scalar-sum f ▹ a) ∶ S
+      → value Γ 𝓡 χ (node scalar-product (b ⧺ node scalar-sum f ▹ a)) ≈ value Γ 𝓡 χ (node scalar-sum (spread scalar-product b f a)))
+      → RuleMeans (spreading scalar-product child-i scalar-sum scalar-sum)
+  spreading-any law i j p q S (spreads b f a h) d = law S b f a d
+
+  removing-means : {l c : Label} → Fitting l c → RuleMeans (removing l c)
+  removing-means x i j p q S (removes b f a h) d = remove-means 𝓡 W F (fitting-chain x) b _ a h d (unit-value 𝓡 W F x)
+
+  absorbing-means : RuleMeans absorbing
+  absorbing-means i j p q S (absorbs b a) d = absorb-means 𝓡 W F b a
+
+  merging-means : RuleMeans merging
+  merging-means i j p q S (merges b f a c) d = merge-means 𝓡 W F c b f a d
+
+  collecting-means : {u v : Summand} → RuleMeans (collecting u v)
+  collecting-means {u} {v} i j p q S (collects b m e c k x) d = collect-means 𝓡 W F u v b m e c k x d
+
+  swapping-means : RuleMeans swapping
+  swapping-means i j p q S (swaps b a t u c) d = swap-means 𝓡 W F c b t u a d
+
+  every-means : Every RuleMeans table
+  every-means =
+      merging-means ⨾
+      equation (means-2 𝓡 W F) ⨾
+      equation (means-3 𝓡 W F) ⨾
+      removing-means scalar-zeros ⨾
+      absorbing-means ⨾
+      removing-means scalar-ones ⨾
+      spreading-any (product-any 𝓡 W F) ⨾
+      equation (means-10 𝓡 W F) ⨾
+      equation (means-11 𝓡 W F) ⨾
+      spreading-first (conjugate-sum 𝓡 W F) ⨾
+      spreading-first (conjugate-product 𝓡 W F) ⨾
+      equation (means-14 𝓡 W F) ⨾
+      equation (means-15 𝓡 W F) ⨾
+      equation (means-16 𝓡 W F) ⨾
+      equation (means-20 𝓡 W F) ⨾
+      equation (means-21 𝓡 W F) ⨾
+      equation (means-22 𝓡 W F) ⨾
+      equation (means-23 𝓡 W F) ⨾
+      spreading-first (dot-first 𝓡 W F) ⨾
+      spreading-second (dot-second 𝓡 W F) ⨾
+      equation (means-26 𝓡 W F) ⨾
+      equation (means-27 𝓡 W F) ⨾
+      equation (means-28 𝓡 W F) ⨾
+      equation (means-29 𝓡 W F) ⨾
+      equation (means-30 𝓡 W F) ⨾
+      equation (means-31 𝓡 W F) ⨾
+      equation (means-32 𝓡 W F) ⨾
+      equation (means-33 𝓡 W F) ⨾
+      equation (means-34 𝓡 W F) ⨾
+      equation (means-40 𝓡 W F) ⨾
+      equation (means-41 𝓡 W F) ⨾
+      spreading-second (scale-second 𝓡 W F) ⨾
+      equation (means-43 𝓡 W F) ⨾
+      equation (means-44 𝓡 W F) ⨾
+      equation (means-45 𝓡 W F) ⨾
+      equation (means-46 𝓡 W F) ⨾
+      equation (means-47 𝓡 W F) ⨾
+      equation (means-48 𝓡 W F) ⨾
+      equation (means-50 𝓡 W F) ⨾
+      collecting-means ⨾
+      collecting-means ⨾
+      collecting-means ⨾
+      collecting-means ⨾
+      removing-means ket-zeros ⨾
+      removing-means bra-zeros ⨾
+      removing-means operator-zeros ⨾
+      equation (means-60 𝓡 W F) ⨾
+      equation (means-61 𝓡 W F) ⨾
+      spreading-first (adjoint-first 𝓡 W F) ⨾
+      equation (means-63 𝓡 W F) ⨾
+      equation (means-64 𝓡 W F) ⨾
+      equation (means-65 𝓡 W F) ⨾
+      equation (means-66 𝓡 W F) ⨾
+      equation (means-67 𝓡 W F) ⨾
+      equation (means-68 𝓡 W F) ⨾
+      equation (means-69 𝓡 W F) ⨾
+      equation (means-70 𝓡 W F) ⨾
+      equation (means-71 𝓡 W F) ⨾
+      equation (means-72 𝓡 W F) ⨾
+      equation (means-73 𝓡 W F) ⨾
+      equation (means-80 𝓡 W F) ⨾
+      equation (means-81 𝓡 W F) ⨾
+      spreading-first (tensor-first 𝓡 W F) ⨾
+      spreading-second (tensor-second 𝓡 W F) ⨾
+      equation (means-84 𝓡 W F) ⨾
+      equation (means-85 𝓡 W F) ⨾
+      equation (means-86 𝓡 W F) ⨾
+      equation (means-87 𝓡 W F) ⨾
+      equation (means-88 𝓡 W F) ⨾
+      equation (means-89 𝓡 W F) ⨾
+      equation (means-90 𝓡 W F) ⨾
+      equation (means-91 𝓡 W F) ⨾
+      equation (means-92 𝓡 W F) ⨾
+      equation (means-93 𝓡 W F) ⨾
+      equation (means-100 𝓡 W F) ⨾
+      equation (means-101 𝓡 W F) ⨾
+      equation (means-102 𝓡 W F) ⨾
+      equation (means-103 𝓡 W F) ⨾
+      equation (means-104 𝓡 W F) ⨾
+      spreading-first (mulk-first 𝓡 W F) ⨾
+      spreading-second (mulk-second 𝓡 W F) ⨾
+      equation (means-107 𝓡 W F) ⨾
+      equation (means-108 𝓡 W F) ⨾
+      equation (means-109 𝓡 W F) ⨾
+      equation (means-110 𝓡 W F) ⨾
+      equation (means-111 𝓡 W F) ⨾
+      equation (means-120 𝓡 W F) ⨾
+      equation (means-121 𝓡 W F) ⨾
+      equation (means-122 𝓡 W F) ⨾
+      equation (means-123 𝓡 W F) ⨾
+      equation (means-124 𝓡 W F) ⨾
+      spreading-first (mulb-first 𝓡 W F) ⨾
+      spreading-second (mulb-second 𝓡 W F) ⨾
+      equation (means-127 𝓡 W F) ⨾
+      equation (means-128 𝓡 W F) ⨾
+      equation (means-129 𝓡 W F) ⨾
+      equation (means-130 𝓡 W F) ⨾
+      equation (means-131 𝓡 W F) ⨾
+      equation (means-140 𝓡 W F) ⨾
+      equation (means-141 𝓡 W F) ⨾
+      equation (means-142 𝓡 W F) ⨾
+      equation (means-143 𝓡 W F) ⨾
+      spreading-first (outer-first 𝓡 W F) ⨾
+      spreading-second (outer-second 𝓡 W F) ⨾
+      equation (means-150 𝓡 W F) ⨾
+      equation (means-151 𝓡 W F) ⨾
+      equation (means-152 𝓡 W F) ⨾
+      equation (means-153 𝓡 W F) ⨾
+      equation (means-154 𝓡 W F) ⨾
+      equation (means-155 𝓡 W F) ⨾
+      equation (means-156 𝓡 W F) ⨾
+      equation (means-157 𝓡 W F) ⨾
+      spreading-first (mulo-first 𝓡 W F) ⨾
+      spreading-second (mulo-second 𝓡 W F) ⨾
+      equation (means-160 𝓡 W F) ⨾
+      equation (means-161 𝓡 W F) ⨾
+      equation (means-162 𝓡 W F) ⨾
+      swapping-means ⨾
+      tt
+
+  pub rule-means : (n : ℕ) (r : Rule) → ruleOf n ≡ some r → RuleMeans r
+  rule-means = every-rule RuleMeans every-means

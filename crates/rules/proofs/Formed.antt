@@ -1,0 +1,252 @@
+-- A typed tree within the limits of a step is a term: of the table's form, with declared names. A term of document 01's form is within these limits.
+use mathlib.Core.Path.{_≡_, refl, _∙_}
+use mathlib.Core.Bool.{true, cond, and-eq-true-iff}
+use mathlib.Core.List.{List, [], _∷_}
+use mathlib.Core.Option.{some}
+use Prim.Native.Nat.{ℕ, zero, suc, _+_, _*_, _≤_, _<_}
+use native.Mathlib.Nat.{le-refl}
+use native.Mathlib.Omega.{arith}
+use borrow.Author.Tests.{lt-ltb, le-leb, eq-eqb, leb-true}
+use lib.Arith.{digits-div, digits-mod}
+use lib.Dec.{eqb, leb, eqb·suc-zero}
+use lib.ListN.{length, getD, getElem?}
+use Rattle.term.specs.declared.terms.Names.{Names}
+use Rattle.term.specs.Heads.{Label, type-name, basis-name, variable, scalar-sum, scalar-product, add, unknown, labelled, heads, reading, word, read}
+use Rattle.term.specs.Trees.{Tree, Forest, node, none, _▹_, count, words, words*, Formed, Formed*}
+use Rattle.term.specs.Terms.{maxWords, maxChildren, maxNames, known, declared, allDeclared, IsTerm}
+use Rattle.term.proofs.Readings.{read-at, read-few}
+use Rattle.term.proofs.Names.{declared-++}
+use Rattle.typing.specs.Sorts.{Sort, Context}
+use Rattle.typing.specs.Rules.{_⊢_∶_, _⊢*_∶_, type-var, basis-var, term-var, sca-0, sca-1, sca-delta, sca-add, sca-mul, sca-conj, sca-dot, base-prod, pair-base, ket-0, ket-base, ket-adj, ket-scr, ket-add, ket-mulk, ket-tsr, bra-0, bra-base, bra-adj, bra-scr, bra-add, bra-mulb, bra-tsr, opt-0, opt-1, opt-adj, opt-scr, opt-add, opt-outer, opt-mulo, opt-tsr, every-none, every-more, WellFormed}
+use Rattle.typing.specs.Declarations.{basisIn, variableIn, contextIn, namesIn, goodDeclarations}
+use Rattle.typing.proofs.Entries.{length-upTo, declarations}
+use Rattle.rules.specs.Steps.{few, few*, within}
+
+-- how many names of each kind a context declares
+abbrev pub countsOf : Context → Names
+countsOf Γ = record { types = Γ .types; bases = length (Γ .bases); variables = length (Γ .variables) }
+
+-- good declarations name as many as the context that they make
+pub counts-in : (ds : List ℕ) → goodDeclarations ds ≡ true → namesIn ds ≡ countsOf (contextIn ds)
+unfolding namesIn contextIn
+counts-in ds e = rw (eq-eqb _ _ (declarations ds e .long), length-upTo (getD ds 1 0) (basisIn ds), length-upTo (getD ds 2 0) (variableIn ds))
+
+-- an item that a list has is below its length
+below : {A : Type 0} (xs : List A) (a : ℕ) {x : A} → getElem? xs a ≡ some x → a < length xs
+below [] a e = absurd (let z : _≡_ {A = ℕ} 0 1 = cc in omega arith)
+below (y ∷ xs) zero e = omega arith
+below (y ∷ xs) (suc a) e = let r = below xs a e in omega arith
+
+-- ---- what a node's word says of the node: it reads back, and its name is declared
+record Node (N : Names) (l : Label) (n : ℕ) : Type 0 where
+  formed : read (word l n) ≡ labelled l n
+  named : declared N (word l n) ≡ true
+
+-- a name below n is known where at least n names are declared
+known-below : (a n m : ℕ) → a < n → n ≤ m → n ≤ maxNames → known a m ≡ true
+unfolding known
+known-below a n m h k x = rw (lt-ltb a m (omega arith), lt-ltb a maxNames (omega arith))
+
+-- a head of a fixed number of children has a numeral for its word: both laws compute
+abbrev plain : {N : Names} {l : Label} {n : ℕ} → read (word l n) ≡ labelled l n → declared N (word l n) ≡ true → Node N l n
+plain p q = record { formed = p; named = q }
+
+module _ (N : Names) where
+  -- the names of a head's words, by the head
+  declared-at : (k a : ℕ) → a < 256
+      → declared N (k * 256 + a) ≡ cond (eqb k 1) (known a (N .types)) (cond (eqb k 3) (known a (N .bases)) (cond (eqb k 26) (known a (N .variables)) true))
+  unfolding declared
+  declared-at k a h = rw (digits-div k h, digits-mod k h)
+
+  -- a node of head k with a in the low byte: a name, or the number of its children
+  node-at : (l : Label) (k a n : ℕ) → a < 256 → word l n ≡ k * 256 + a → reading (getD heads k unknown) a ≡ labelled l n
+      → cond (eqb k 1) (known a (N .types)) (cond (eqb k 3) (known a (N .bases)) (cond (eqb k 26) (known a (N .variables)) true)) ≡ true → Node N l n
+  node-at l k a n h w r d = record { formed = rw w (read-at k a h ∙ r); named = rw w (declared-at k a h ∙ d) }
+
+  type-node : (a : ℕ) → a < 256 → known a (N .types) ≡ true → Node N (type-name a) 0
+  unfolding word heads reading
+  type-node a h e = node-at (type-name a) 1 a 0 h refl refl e
+
+  basis-node : (a : ℕ) → a < 256 → known a (N .bases) ≡ true → Node N (basis-name a) 0
+  unfolding word heads reading
+  basis-node a h e = node-at (basis-name a) 3 a 0 h refl refl e
+
+  variable-node : (a : ℕ) → a < 256 → known a (N .variables) ≡ true → Node N (variable a) 0
+  unfolding word heads reading
+  variable-node a h e = node-at (variable a) 26 a 0 h refl refl e
+
+  sum-node : (n : ℕ) → suc n ≤ 255 → Node N scalar-sum (suc n)
+  unfolding word heads reading
+  sum-node n h = node-at scalar-sum 7 (suc n) (suc n) (omega arith) refl (rw eqb·suc-zero) refl
+
+  product-node : (n : ℕ) → suc n ≤ 255 → Node N scalar-product (suc n)
+  unfolding word heads reading
+  product-node n h = node-at scalar-product 8 (suc n) (suc n) (omega arith) refl (rw eqb·suc-zero) refl
+
+  add-node : (n : ℕ) → suc n ≤ 255 → Node N add (suc n)
+  unfolding word heads reading
+  add-node n h = node-at add 20 (suc n) (suc n) (omega arith) refl (rw eqb·suc-zero) refl
+
+-- ---- the children of a typed node are typed
+data Kids (Γ : Context) : Forest → Type 0 where
+  no-kid : Kids Γ none
+  kid : {t : Tree} {S : Sort} {f : Forest} → Γ ⊢ t ∶ S → Kids Γ f → Kids Γ (t ▹ f)
+
+kids : {Γ : Context} {f : Forest} {S : Sort} → Γ ⊢* f ∶ S → Kids Γ f
+kids every-none = no-kid
+kids (every-more a f) = kid a (kids f)
+
+abbrev one : {Γ : Context} {t : Tree} {S : Sort} → Γ ⊢ t ∶ S → Kids Γ (t ▹ none)
+one a = kid a no-kid
+
+abbrev two : {Γ : Context} {t u : Tree} {S T : Sort} → Γ ⊢ t ∶ S → Γ ⊢ u ∶ T → Kids Γ (t ▹ u ▹ none)
+two a b = kid a (kid b no-kid)
+
+typed-kids : {Γ : Context} {l : Label} {cs : Forest} {S : Sort} → Γ ⊢ node l cs ∶ S → Kids Γ cs
+typed-kids (type-var h) = no-kid
+typed-kids (basis-var e) = no-kid
+typed-kids (term-var e) = no-kid
+typed-kids sca-0 = no-kid
+typed-kids sca-1 = no-kid
+typed-kids (sca-delta a b) = two a b
+typed-kids (sca-add a f) = kid a (kids f)
+typed-kids (sca-mul a f) = kid a (kids f)
+typed-kids (sca-conj a) = one a
+typed-kids (sca-dot a b) = two a b
+typed-kids (base-prod a b h) = two a b
+typed-kids (pair-base a b h) = two a b
+typed-kids (ket-0 a) = one a
+typed-kids (ket-base a) = one a
+typed-kids (ket-adj a) = one a
+typed-kids (ket-scr a b) = two a b
+typed-kids (ket-add a f) = kid a (kids f)
+typed-kids (ket-mulk a b) = two a b
+typed-kids (ket-tsr a b h) = two a b
+typed-kids (bra-0 a) = one a
+typed-kids (bra-base a) = one a
+typed-kids (bra-adj a) = one a
+typed-kids (bra-scr a b) = two a b
+typed-kids (bra-add a f) = kid a (kids f)
+typed-kids (bra-mulb a b) = two a b
+typed-kids (bra-tsr a b h) = two a b
+typed-kids (opt-0 a b) = two a b
+typed-kids (opt-1 a) = one a
+typed-kids (opt-adj a) = one a
+typed-kids (opt-scr a b) = two a b
+typed-kids (opt-add a f) = kid a (kids f)
+typed-kids (opt-outer a b) = two a b
+typed-kids (opt-mulo a b) = two a b
+typed-kids (opt-tsr a b h k) = two a b
+
+-- a tree with few children at each node: at this one, and at those below
+few-node : (l : Label) (cs : Forest) → few (node l cs) ≡ true → (count cs ≤ 255) × (few* cs ≡ true)
+unfolding few
+few-node l cs h = let p = and-eq-true-iff (leb (count cs) maxChildren) _ .0 h in (leb-true _ _ (p .0), p .1)
+
+few-more : (t : Tree) (f : Forest) → few* (t ▹ f) ≡ true → (few t ≡ true) × (few* f ≡ true)
+unfolding few
+few-more t f h = and-eq-true-iff (few t) _ .0 h
+
+module _ {Γ : Context} (W : WellFormed Γ) (N : Names) (p : Γ .types ≤ N .types) (q : length (Γ .bases) ≤ N .bases) (r : length (Γ .variables) ≤ N .variables) where
+  -- by the rules, a typed node has the children that its head wants, and a declared name; a counted head has from 1, and here to 255
+  typed-node : {l : Label} {cs : Forest} {S : Sort} → Γ ⊢ node l cs ∶ S → count cs ≤ 255 → Node N l (count cs)
+  unfolding word read heads reading declared count
+  typed-node (type-var {a} h) k = type-node N a (omega (arith, W .types)) (known-below a (Γ .types) (N .types) h p (W .types))
+  typed-node (basis-var {a} e) k =
+      let h = below (Γ .bases) a e in basis-node N a (omega (arith, W .bases)) (known-below a (length (Γ .bases)) (N .bases) h q (W .bases))
+  typed-node (term-var {a} e) k =
+      let h = below (Γ .variables) a e in
+      variable-node N a (omega (arith, W .variables)) (known-below a (length (Γ .variables)) (N .variables) h r (W .variables))
+  typed-node sca-0 k = plain refl refl
+  typed-node sca-1 k = plain refl refl
+  typed-node (sca-delta a b) k = plain refl refl
+  typed-node (sca-add a f) k = sum-node N _ k
+  typed-node (sca-mul a f) k = product-node N _ k
+  typed-node (sca-conj a) k = plain refl refl
+  typed-node (sca-dot a b) k = plain refl refl
+  typed-node (base-prod a b h) k = plain refl refl
+  typed-node (pair-base a b h) k = plain refl refl
+  typed-node (ket-0 a) k = plain refl refl
+  typed-node (ket-base a) k = plain refl refl
+  typed-node (ket-adj a) k = plain refl refl
+  typed-node (ket-scr a b) k = plain refl refl
+  typed-node (ket-add a f) k = add-node N _ k
+  typed-node (ket-mulk a b) k = plain refl refl
+  typed-node (ket-tsr a b h) k = plain refl refl
+  typed-node (bra-0 a) k = plain refl refl
+  typed-node (bra-base a) k = plain refl refl
+  typed-node (bra-adj a) k = plain refl refl
+  typed-node (bra-scr a b) k = plain refl refl
+  typed-node (bra-add a f) k = add-node N _ k
+  typed-node (bra-mulb a b) k = plain refl refl
+  typed-node (bra-tsr a b h) k = plain refl refl
+  typed-node (opt-0 a b) k = plain refl refl
+  typed-node (opt-1 a) k = plain refl refl
+  typed-node (opt-adj a) k = plain refl refl
+  typed-node (opt-scr a b) k = plain refl refl
+  typed-node (opt-add a f) k = add-node N _ k
+  typed-node (opt-outer a b) k = plain refl refl
+  typed-node (opt-mulo a b) k = plain refl refl
+  typed-node (opt-tsr a b h l) k = plain refl refl
+
+  -- so at each node of the tree: the children are typed, and few
+  mutual
+    unfolding Formed
+
+    tree-formed : (t : Tree) {S : Sort} → Γ ⊢ t ∶ S → few t ≡ true → Formed t
+    tree-formed (node l cs) d h = let e = few-node l cs h in (typed-node d (e .0) .formed, forest-formed cs (typed-kids d) (e .1))
+
+    forest-formed : (f : Forest) → Kids Γ f → few* f ≡ true → Formed* f
+    forest-formed none d h = tt
+    forest-formed (t ▹ f) (kid a d) h = let e = few-more t f h in (tree-formed t a (e .0), forest-formed f d (e .1))
+
+  mutual
+    unfolding words allDeclared
+
+    tree-declared : (t : Tree) {S : Sort} → Γ ⊢ t ∶ S → few t ≡ true → allDeclared N (words t) ≡ true
+    tree-declared (node l cs) d h = let e = few-node l cs h in rw (typed-node d (e .0) .named) (forest-declared cs (typed-kids d) (e .1))
+
+    forest-declared : (f : Forest) → Kids Γ f → few* f ≡ true → allDeclared N (words* f) ≡ true
+    forest-declared none d h = refl
+    forest-declared (t ▹ f) (kid a d) h =
+        let e = few-more t f h in rw (declared-++ N (words t) (words* f), tree-declared t a (e .0)) (forest-declared f d (e .1))
+
+  -- every name in a typed tree is declared
+  pub typed-declared : {t : Tree} {S : Sort} → Γ ⊢ t ∶ S → few t ≡ true → allDeclared N (words t) ≡ true
+  typed-declared {t} d h = tree-declared t d h
+
+  -- a typed tree within the limits of a step is a term
+  pub within-term : {t : Tree} {S : Sort} → Γ ⊢ t ∶ S → within t ≡ true → IsTerm N t
+  unfolding within
+  within-term {t} d h =
+      let e = and-eq-true-iff (few t) _ .0 h in
+      let s = and-eq-true-iff (leb (length (words t)) maxWords) _ .0 (e .1) in
+      record { formed = tree-formed t d (e .0); short = leb-true _ _ (s .0); shallow = leb-true _ _ (s .1); named = tree-declared t d (e .0) }
+
+-- ---- the same with the context's own counts
+module _ {Γ : Context} (W : WellFormed Γ) where
+  -- a typed tree with few children at each node is of the table's form
+  pub typed-formed : {t : Tree} {S : Sort} → Γ ⊢ t ∶ S → few t ≡ true → Formed t
+  typed-formed {t} d h = tree-formed W (countsOf Γ) (le-refl _) (le-refl _) (le-refl _) t d h
+
+  pub typed-declared-own : {t : Tree} {S : Sort} → Γ ⊢ t ∶ S → few t ≡ true → allDeclared (countsOf Γ) (words t) ≡ true
+  typed-declared-own d h = typed-declared W (countsOf Γ) (le-refl _) (le-refl _) (le-refl _) d h
+
+  pub within-term-own : {t : Tree} {S : Sort} → Γ ⊢ t ∶ S → within t ≡ true → IsTerm (countsOf Γ) t
+  within-term-own d h = within-term W (countsOf Γ) (le-refl _) (le-refl _) (le-refl _) d h
+
+-- ---- and back: what the table reads has at most 255 children
+mutual
+  unfolding Formed few
+
+  pub formed-few : (t : Tree) → Formed t → few t ≡ true
+  formed-few (node l cs) h = rw (le-leb (count cs) maxChildren (read-few _ l (count cs) (h .0))) (formed-few* cs (h .1))
+
+  pub formed-few* : (f : Forest) → Formed* f → few* f ≡ true
+  formed-few* none h = refl
+  formed-few* (t ▹ f) h = rw (formed-few t (h .0)) (formed-few* f (h .1))
+
+-- a term is within the limits of a step
+pub term-few : (N : Names) {t : Tree} → IsTerm N t → within t ≡ true
+unfolding within
+term-few N {t} h = rw (formed-few t (h .formed), le-leb _ _ (h .short), le-leb _ _ (h .shallow))

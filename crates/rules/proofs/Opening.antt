@@ -1,0 +1,27 @@
+-- Child i of a forest, with those before and behind it.
+use mathlib.Core.Path.{_≡_, refl, ap}
+use Prim.Native.Nat.{ℕ, zero, suc}
+use Rattle.term.specs.Trees.{Tree, Forest, none, _▹_, count, _⧺_}
+use Rattle.rules.specs.Rewrite.{Opened, outside, opened, behind, open-at}
+
+-- the two answers of `open-at`, and what the second says of the forest
+pub data At (f : Forest) (i : ℕ) : Opened → Type 0 where
+  too-far : At f i outside
+  there : (b : Forest) (t : Tree) (a : Forest) → f ≡ b ⧺ t ▹ a → i ≡ count b → At f i (opened b t a)
+
+at-more : {f : Forest} {i : ℕ} {o : Opened} (t : Tree) → At f i o → At (t ▹ f) (suc i) (behind t o)
+unfolding behind count _⧺_
+at-more t too-far = too-far
+at-more t (there b u a e h) = there (t ▹ b) u a (rw e) (rw h)
+
+pub at : (f : Forest) (i : ℕ) → At f i (open-at f i)
+unfolding open-at count _⧺_
+at none i = too-far
+at (t ▹ f) zero = there none t f refl refl
+at (t ▹ f) (suc i) = at-more t (at f i)
+
+-- the child behind b is opened at the number of b
+pub open-⧺ : (b : Forest) (t : Tree) (a : Forest) → open-at (b ⧺ t ▹ a) (count b) ≡ opened b t a
+unfolding open-at behind count _⧺_
+open-⧺ none t a = refl
+open-⧺ (u ▹ b) t a = ap (behind u) (open-⧺ b t a)

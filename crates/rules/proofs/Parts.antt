@@ -1,0 +1,102 @@
+-- What a rule rewrites is a term: no rule's left side is an index or a basis.
+use mathlib.Core.Path.{_≡_, refl}
+use mathlib.Core.Bool.{Bool, true, false}
+use mathlib.Core.Option.{some}
+use Prim.Native.Nat.{ℕ}
+use Rattle.term.specs.Heads.{Label, type-name, basis-name, variable, index-product, pair, scalar-zero, scalar-one, scalar-sum, scalar-product, conjugate, delta, dot, zero-ket, zero-bra, zero-operator, identity, basis-ket, basis-bra, adjoint, scale, add, tensor, mulk, mulb, outer, mulo}
+use Rattle.term.specs.Trees.{Tree, Forest, node}
+use Rattle.typing.specs.Sorts.{Sort, index, basis, scalar, ket, bra, operator, Context}
+use Rattle.typing.specs.Rules.{_⊢_∶_, type-var, basis-var, term-var, base-prod, pair-base, IsType, WellFormed}
+use Rattle.rules.specs.Patterns.{Pattern, #_, first, second, _⟨⟩, _⟨_⟩, _⟨_∣_⟩, fill}
+use Rattle.rules.specs.Table.{Rule, _⇒_▷_, spreading, removing, absorbing, merging, collecting, swapping, ruleOf}
+use Rattle.rules.specs.Instances.{Chain, scalar-sums, scalar-products, sums, Instance, equals, spreads, removes, absorbs, merges, collects, swaps}
+use Rattle.rules.proofs.Every.{rule-passes}
+use Rattle.rules.proofs.Lines.{not-so}
+
+-- heads of indices and bases
+abbrev term-head : Label → Bool
+term-head (type-name a) = false
+term-head (basis-name a) = false
+term-head (variable a) = true
+term-head index-product = false
+term-head pair = false
+term-head scalar-zero = true
+term-head scalar-one = true
+term-head scalar-sum = true
+term-head scalar-product = true
+term-head conjugate = true
+term-head delta = true
+term-head dot = true
+term-head zero-ket = true
+term-head zero-bra = true
+term-head zero-operator = true
+term-head identity = true
+term-head basis-ket = true
+term-head basis-bra = true
+term-head adjoint = true
+term-head scale = true
+term-head add = true
+term-head tensor = true
+term-head mulk = true
+term-head mulb = true
+term-head outer = true
+term-head mulo = true
+
+abbrev left-head : Pattern → Bool
+left-head (# k) = false
+left-head (first k) = false
+left-head (second k) = false
+left-head (l ⟨⟩) = term-head l
+left-head (l ⟨ p ⟩) = term-head l
+left-head (l ⟨ p ∣ q ⟩) = term-head l
+
+abbrev rewrites-terms : Rule → Bool
+rewrites-terms (k ⇒ l ▷ r) = left-head l
+rewrites-terms (spreading l w s r) = term-head l
+rewrites-terms (removing l c) = term-head l
+rewrites-terms absorbing = true
+rewrites-terms merging = true
+rewrites-terms (collecting u v) = true
+rewrites-terms swapping = true
+
+abbrev Terms : Rule → Type 0
+Terms r = rewrites-terms r ≡ true
+
+-- a part of a term's head is no index and no basis
+type-of : {Γ : Context} (W : WellFormed Γ) {l : Label} {f : Forest} (S : Sort) → term-head l ≡ true → Γ ⊢ node l f ∶ S → IsType S
+type-of W (index σ) h (type-var x) = not-so h
+type-of W (index σ) h (term-var e) = W .variable-type _ _ e .0
+type-of W (index σ) h (base-prod a b x) = not-so h
+type-of W (basis σ) h (basis-var e) = not-so h
+type-of W (basis σ) h (term-var e) = W .variable-type _ _ e .0
+type-of W (basis σ) h (pair-base a b x) = not-so h
+type-of W scalar h d = tt
+type-of W (ket σ) h d = tt
+type-of W (bra σ) h d = tt
+type-of W (operator σ τ) h d = tt
+
+chain-head : {l : Label} → Chain l → term-head l ≡ true
+chain-head scalar-sums = refl
+chain-head scalar-products = refl
+chain-head sums = refl
+
+module _ {Γ : Context} (W : WellFormed Γ) {S : Sort} where
+  left-type : (θ : ℕ → Tree) (l : Pattern) → left-head l ≡ true → Γ ⊢ fill Γ θ l ∶ S → IsType S
+  left-type θ (# k) h d = absurd (not-so h)
+  left-type θ (first k) h d = absurd (not-so h)
+  left-type θ (second k) h d = absurd (not-so h)
+  left-type θ (l ⟨⟩) h d = type-of W S h d
+  left-type θ (l ⟨ p ⟩) h d = type-of W S h d
+  left-type θ (l ⟨ p ∣ q ⟩) h d = type-of W S h d
+
+  instance-type : {r : Rule} {i j : ℕ} {p q : Tree} → Terms r → Instance Γ r i j p q → Γ ⊢ p ∶ S → IsType S
+  instance-type h (equals {l = l} θ w) d = left-type θ l h d
+  instance-type h (spreads b f a x) d = type-of W S h d
+  instance-type h (removes b f a x) d = type-of W S h d
+  instance-type h (absorbs b a) d = type-of W S refl d
+  instance-type h (merges b f a c) d = type-of W S (chain-head c) d
+  instance-type h (collects b m e c k x) d = type-of W S refl d
+  instance-type h (swaps b a t u c) d = type-of W S (chain-head c) d
+
+  pub rewritten-type : (n : ℕ) {r : Rule} {i j : ℕ} {p q : Tree} → ruleOf n ≡ some r → Instance Γ r i j p q → Γ ⊢ p ∶ S → IsType S
+  rewritten-type n {r} e x d = instance-type (rule-passes rewrites-terms refl n r e) x d

@@ -1,0 +1,58 @@
+-- When a part is an instance of a rule's left side with indices i and j, and what it becomes. Document 01, "The rules by number", from "Rules go left to right only" on.
+use mathlib.Core.Path.{_≡_}
+use mathlib.Core.Bool.{true}
+use Prim.Native.Nat.{ℕ, _+_, _<_}
+use Rattle.term.specs.Heads.{Label, scalar-zero, scalar-one, scalar-sum, scalar-product, scale, add}
+use Rattle.term.specs.Trees.{Tree, Forest, node, none, _▹_, _⧺_, count}
+use Rattle.typing.specs.Sorts.{Context}
+use Rattle.rules.specs.Patterns.{Pattern, sortOf, fill}
+use Rattle.rules.specs.Table.{Kind, wanted, Which, child, child-i, Summand, plain, scaled, Rule, _⇒_▷_, spreading, removing, absorbing, merging, collecting, swapping}
+
+-- "of a 7, 8 or 20"
+pub data Chain : Label → Type 0 where
+  scalar-sums : Chain scalar-sum
+  scalar-products : Chain scalar-product
+  sums : Chain add
+
+-- "Unused indices are 0": the sum stands at a fixed child, or at child i
+abbrev pub Stands : Which → ℕ → ℕ → Type 0
+Stands (child k) i n = (i ≡ 0) × (n ≡ k)
+Stands child-i i n = i ≡ n
+
+-- "Sums from distributing have as many children as the sum they came from": the head l over each tree of f, between the other children
+unfoldable pub spread : Label → Forest → Forest → Forest → Forest
+spread l before none after = none
+spread l before (t ▹ f) after = node l (before ⧺ t ▹ after) ▹ spread l before f after
+
+-- a summand X or a.X, and its factor
+abbrev pub summand : Summand → Tree → Tree → Tree
+summand plain a x = x
+summand scaled a x = node scale (a ▹ x ▹ none)
+
+abbrev pub factor : Summand → Tree → Tree
+factor plain a = node scalar-one none
+factor scaled a = a
+
+pub data Instance (Γ : Context) : Rule → ℕ → ℕ → Tree → Tree → Type 0 where
+  -- the left side with parts in its holes becomes the right side with the same
+  equals : {k : Kind} {l r : Pattern} (θ : ℕ → Tree) → wanted k (sortOf Γ (θ 0)) ≡ true → Instance Γ (k ⇒ l ▷ r) 0 0 (fill Γ θ l) (fill Γ θ r)
+  -- "7 spreads child i, a sum"; the others a fixed child
+  spreads : {l s r : Label} {w : Which} {i : ℕ} (before f after : Forest) → Stands w i (count before)
+      → Instance Γ (spreading l w s r) i 0 (node l (before ⧺ node s f ▹ after)) (node r (spread l before f after))
+  -- "4, 6, 55–57 remove child i, the fitting zero or one, only from two or more children"
+  removes : {l c : Label} (before f after : Forest) → 0 < count (before ⧺ after)
+      → Instance Γ (removing l c) (count before) 0 (node l (before ⧺ node c f ▹ after)) (node l (before ⧺ after))
+  -- "5 needs child i to be 0"
+  absorbs : (before after : Forest)
+      → Instance Γ absorbing (count before) 0 (node scalar-product (before ⧺ node scalar-zero none ▹ after)) (node scalar-zero none)
+  -- "1 merges child i, of the parent's own head (7, 8 or 20), into the parent"
+  merges : {l : Label} (before f after : Forest) → Chain l
+      → Instance Γ merging (count before) 0 (node l (before ⧺ node l f ▹ after)) (node l (before ⧺ f ⧺ after))
+  -- "51–54 need i < j. .. must equal the other word by word; the new summand goes last"
+  collects : {u v : Summand} (before between after : Forest) (a b x : Tree)
+      → Instance Γ (collecting u v) (count before) (count before + 1 + count between)
+      (node add (before ⧺ summand u a x ▹ between ⧺ summand v b x ▹ after))
+      (node add (before ⧺ between ⧺ after ⧺ node scale (node scalar-sum (factor u a ▹ factor v b ▹ none) ▹ x ▹ none) ▹ none))
+  -- "170 exchanges children i and i + 1 of a 7, 8 or 20"
+  swaps : {l : Label} (before after : Forest) (t u : Tree) → Chain l
+      → Instance Γ swapping (count before) 0 (node l (before ⧺ t ▹ u ▹ after)) (node l (before ⧺ u ▹ t ▹ after))

@@ -1,0 +1,133 @@
+-- What a part becomes by a rule, as a function. `proofs/Decided` shows that it answers exactly the instances.
+use mathlib.Core.Bool.{Bool, true, cond, _&&_, _||_}
+use mathlib.Core.List.{List, [], _∷_, _++_}
+use mathlib.Core.Option.{Option, some, none as refused}
+use Prim.Native.Nat.{ℕ, zero, suc}
+use lib.Dec.{eqb, ltb}
+use lib.ListN.{length, getD}
+use Rattle.term.specs.Heads.{Label, word, scalar-zero, scalar-sum, scalar-product, scale, add}
+use Rattle.term.specs.Trees.{Tree, Forest, node, none, _▹_, _⧺_, count, words}
+use Rattle.typing.specs.Sorts.{Context}
+use Rattle.typing.specs.TypeOf.{sameWords}
+use Rattle.rules.specs.Patterns.{Pattern, #_, first, second, _⟨⟩, _⟨_⟩, _⟨_∣_⟩, no-index, sortOf, fill}
+use Rattle.rules.specs.Table.{Kind, wanted, Which, child, child-i, Summand, plain, scaled, Rule, _⇒_▷_, spreading, removing, absorbing, merging, collecting, swapping}
+use Rattle.rules.specs.Instances.{spread, factor}
+
+-- a label is the one that is wanted: their words over n children are the same
+unfoldable pub isHead : Label → Label → ℕ → Bool
+isHead l m n = eqb (word l n) (word m n)
+
+-- ---- patterns
+-- What the holes hold so far, in their order. A new hole takes the part; one that was met before wants the same part
+unfoldable pub andThen : Option (List Tree) → (List Tree → Option (List Tree)) → Option (List Tree)
+andThen refused f = refused
+andThen (some c) f = f c
+
+unfoldable pub hold : ℕ → Tree → List Tree → Option (List Tree)
+hold k t c = cond (eqb k (length c)) (some (c ++ t ∷ [])) (cond (sameWords (words (getD c k no-index)) (words t)) (some c) refused)
+
+unfoldable pub match : Pattern → Tree → List Tree → Option (List Tree)
+match (# k) t c = hold k t c
+match (first k) t c = refused
+match (second k) t c = refused
+match (l ⟨⟩) (node m none) c = cond (isHead l m 0) (some c) refused
+match (l ⟨⟩) (node m (t ▹ f)) c = refused
+match (l ⟨ p ⟩) (node m none) c = refused
+match (l ⟨ p ⟩) (node m (t ▹ none)) c = cond (isHead l m 1) (match p t c) refused
+match (l ⟨ p ⟩) (node m (t ▹ u ▹ f)) c = refused
+match (l ⟨ p ∣ q ⟩) (node m none) c = refused
+match (l ⟨ p ∣ q ⟩) (node m (t ▹ none)) c = refused
+match (l ⟨ p ∣ q ⟩) (node m (t ▹ u ▹ none)) c = cond (isHead l m 2) (andThen (match p t c) (λ d. match q u d)) refused
+match (l ⟨ p ∣ q ⟩) (node m (t ▹ u ▹ v ▹ f)) c = refused
+
+abbrev pub holes : List Tree → ℕ → Tree
+holes c k = getD c k no-index
+
+unfoldable pub filled : Context → Kind → Pattern → Option (List Tree) → Option Tree
+filled Γ k r refused = refused
+filled Γ k r (some c) = cond (wanted k (sortOf Γ (holes c 0))) (some (fill Γ (holes c) r)) refused
+
+-- ---- children: those before child i, the child, and those behind it
+pub data Opened : Type 0 where
+  outside : Opened
+  opened : Forest → Tree → Forest → Opened
+
+unfoldable pub behind : Tree → Opened → Opened
+behind t outside = outside
+behind t (opened b u a) = opened (t ▹ b) u a
+
+unfoldable pub open-at : Forest → ℕ → Opened
+open-at none i = outside
+open-at (t ▹ f) zero = opened none t f
+open-at (t ▹ f) (suc i) = behind t (open-at f i)
+
+-- ---- the families, each at an opened parent
+unfoldable pub spreadAt : Label → Label → Label → Opened → Option Tree
+spreadAt l s r outside = refused
+spreadAt l s r (opened b (node m f) a) = cond (isHead s m (count f)) (some (node r (spread l b f a))) refused
+
+unfoldable pub removeAt : Label → Label → Opened → Option Tree
+removeAt l c outside = refused
+removeAt l c (opened b (node m f) a) = cond (isHead c m (count f) && ltb 0 (count (b ⧺ a))) (some (node l (b ⧺ a))) refused
+
+unfoldable pub absorbAt : Opened → Option Tree
+absorbAt outside = refused
+absorbAt (opened b (node m f) a) = cond (isHead scalar-zero m (count f)) (some (node scalar-zero none)) refused
+
+unfoldable pub mergeAt : Label → Opened → Option Tree
+mergeAt l outside = refused
+mergeAt l (opened b (node m f) a) = cond (isHead l m (count f)) (some (node l (b ⧺ f ⧺ a))) refused
+
+unfoldable pub swapAt : Label → Opened → Option Tree
+swapAt l outside = refused
+swapAt l (opened b t none) = refused
+swapAt l (opened b t (u ▹ a)) = some (node l (b ⧺ u ▹ t ▹ a))
+
+-- a summand as its factor and its X
+pub data Multiple : Type 0 where
+  no-multiple : Multiple
+  multiple : Tree → Tree → Multiple
+
+unfoldable pub multipleOf : Summand → Tree → Multiple
+multipleOf plain t = multiple (factor plain t) t
+multipleOf scaled (node m none) = no-multiple
+multipleOf scaled (node m (a ▹ none)) = no-multiple
+multipleOf scaled (node m (a ▹ x ▹ none)) = cond (isHead scale m 2) (multiple a x) no-multiple
+multipleOf scaled (node m (a ▹ x ▹ t ▹ f)) = no-multiple
+
+unfoldable pub collected : Forest → Forest → Forest → Multiple → Multiple → Option Tree
+collected b m a no-multiple q = refused
+collected b m a (multiple c x) no-multiple = refused
+collected b m a (multiple c x) (multiple d y) =
+    cond (sameWords (words x) (words y)) (some (node add (b ⧺ m ⧺ a ⧺ node scale (node scalar-sum (c ▹ d ▹ none) ▹ x ▹ none) ▹ none))) refused
+
+-- child j is opened first, and then child i among those before it
+unfoldable pub collectBefore : Summand → Summand → Tree → Forest → Opened → Option Tree
+collectBefore u v t a outside = refused
+collectBefore u v t a (opened b s m) = collected b m a (multipleOf u s) (multipleOf v t)
+
+unfoldable pub collectAt : Summand → Summand → ℕ → Opened → Option Tree
+collectAt u v i outside = refused
+collectAt u v i (opened b t a) = collectBefore u v t a (open-at b i)
+
+-- ---- every rule
+unfoldable pub isChain : Label → ℕ → Bool
+isChain m n = isHead scalar-sum m n || (isHead scalar-product m n || isHead add m n)
+
+unfoldable pub place : Which → ℕ → ℕ
+place (child k) i = k
+place child-i i = i
+
+unfoldable pub usable : Which → ℕ → Bool
+usable (child k) i = eqb i 0
+usable child-i i = true
+
+unfoldable pub rewrite : Context → Rule → ℕ → ℕ → Tree → Option Tree
+rewrite Γ (k ⇒ l ▷ r) i j t = cond (eqb i 0 && eqb j 0) (filled Γ k r (match l t [])) refused
+rewrite Γ (spreading l w s r) i j (node m f) =
+    cond (eqb j 0 && (usable w i && isHead l m (count f))) (spreadAt l s r (open-at f (place w i))) refused
+rewrite Γ (removing l c) i j (node m f) = cond (eqb j 0 && isHead l m (count f)) (removeAt l c (open-at f i)) refused
+rewrite Γ absorbing i j (node m f) = cond (eqb j 0 && isHead scalar-product m (count f)) (absorbAt (open-at f i)) refused
+rewrite Γ merging i j (node m f) = cond (eqb j 0 && isChain m (count f)) (mergeAt m (open-at f i)) refused
+rewrite Γ (collecting u v) i j (node m f) = cond (isHead add m (count f)) (collectAt u v i (open-at f j)) refused
+rewrite Γ swapping i j (node m f) = cond (eqb j 0 && isChain m (count f)) (swapAt m (open-at f i)) refused
