@@ -12,24 +12,17 @@ use Rattle.algebra.proofs.Alike.{≈-refl, ≡→≈, number-≈, add-≈, scal
 use Rattle.algebra.proofs.Shapes.{same-rows, same-columns, conformable}
 use Rattle.term.specs.Heads.{Label}
 use Rattle.term.specs.Trees.{Tree, Forest, node, none, _▹_, words, found, subtree, subtree*, replace, replace*}
-use Rattle.typing.specs.Sorts.{Sort, index, basis, scalar, ket, bra, operator, Context}
+use Rattle.typing.specs.Sorts.{Sort, scalar, ket, bra, operator, Context}
 use Rattle.typing.specs.Rules.{_⊢_∶_, _⊢*_∶_, every-none, every-more, type-var, basis-var, term-var, sca-0, sca-1, sca-delta, sca-add, sca-mul, sca-conj, sca-dot, base-prod, pair-base, ket-0, ket-base, ket-adj, ket-scr, ket-add, ket-mulk, ket-tsr, bra-0, bra-base, bra-adj, bra-scr, bra-add, bra-mulb, bra-tsr, opt-0, opt-1, opt-adj, opt-scr, opt-add, opt-outer, opt-mulo, opt-tsr, WellFormed}
 use Rattle.meaning.specs.Choices.{Choice, Meaning, a-term, an-index, a-basis}
 use Rattle.meaning.specs.Meaning.{first, second, plus, total, times, product, meaningOf, meaning, meanings, names, stands}
 use Rattle.meaning.specs.Sorted.{Proper, Fits, Same}
+use Rattle.meaning.proofs.Sameness.{same-refl}
 use Rattle.meaning.proofs.Shapes.{plus-shape, shape}
 
 -- the numbers of two scalars
 same-number : {R : Type 0} {A B : Matrix R} → Shape A 1 1 → A ≈ B → number A ≡ number B
 same-number s p = number-≈ p (s .rows) (s .columns)
-
-pub same-refl : {R : Type 0} (S : Sort) (x : Meaning R) → Same S x x
-same-refl (index σ) x = refl
-same-refl (basis σ) x = refl
-same-refl scalar x = ≈-refl (x .matrix)
-same-refl (ket σ) x = ≈-refl (x .matrix)
-same-refl (bra σ) x = ≈-refl (x .matrix)
-same-refl (operator σ τ) x = ≈-refl (x .matrix)
 
 module _ {R : Type 0} (𝓡 : StarSemiring R) {Γ : Context} {χ : Choice R} (W : WellFormed Γ) (F : Fits 𝓡 Γ χ) where
   -- u serves for t: whatever sort t has, u has it too and stands for the same

@@ -1,4 +1,5 @@
 -- The laws of meaning that the crates above cite.
+pub mod Sameness
 pub mod Shapes
 pub mod Congruence
 pub mod Theorems

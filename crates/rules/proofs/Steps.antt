@@ -4,21 +4,20 @@ use mathlib.Core.List.{List, [], _∷_}
 use Prim.Native.Nat.{ℕ, _+_}
 use lib.Dec.{eqb}
 use Rattle.algebra.specs.Semirings.{StarSemiring}
-use Rattle.algebra.proofs.Alike.{≈-trans}
 use Rattle.algebra.proofs.Gaussian.{gaussian}
 use Rattle.term.specs.declared.parts.Side.{Side}
 use Rattle.term.specs.declared.parts.Side.the-variants.{Left, Right}
 use Rattle.term.specs.Trees.{Tree}
-use Rattle.typing.specs.Sorts.{Sort, index, basis, scalar, ket, bra, operator, Context}
+use Rattle.typing.specs.Sorts.{Sort, Context}
 use Rattle.typing.specs.Rules.{_⊢_∶_, WellFormed}
 use Rattle.typing.proofs.Replace.{part-typed, replace-typed}
-use Rattle.meaning.specs.Choices.{Choice, Meaning}
+use Rattle.meaning.specs.Choices.{Choice}
 use Rattle.meaning.specs.Meaning.{stands, mean}
 use Rattle.meaning.specs.Sorted.{Fits, Same}
-use Rattle.meaning.proofs.Congruence.{same-refl}
+use Rattle.meaning.proofs.Sameness.{same-refl, same-sym, same-trans}
 use Rattle.meaning.proofs.Theorems.{same-alike, alike-numbers, congruent}
 use Rattle.rules.specs.Steps.{Step, stepOf, stepsOf, Move, Sides, chosen, put, Run, runOf}
-use Rattle.rules.specs.Statements.{Taken, Outcome, good, no-rule, no-place, no-instance, too-big, StepDecided, Typed, StepKeepsType, StepsKeepType, StepsKeepMeaning, RunKeepsMeaning, GaussianSteps}
+use Rattle.rules.specs.Statements.{Taken, Outcome, good, no-rule, no-place, no-instance, too-big, StepDecided, Typed, StepKeepsType, StepsKeepType, StepsKeepMeaning, RunKeepsMeaning, RunProves, GaussianSteps, GaussianRun}
 use Rattle.rules.proofs.AllTypes.{rule-keeps}
 use Rattle.rules.proofs.AllMeanings.{rule-means}
 use Rattle.rules.proofs.Rules.{decides}
@@ -58,14 +57,6 @@ module _ {R : Type 0} (𝓡 : StarSemiring R) {Γ : Context} {χ : Choice R} (W 
   outcome-means {S} d (no-place e h) = same-refl S _
   outcome-means {S} d (no-instance e f h) = same-refl S _
   outcome-means {S} d (too-big e f x h) = same-refl S _
-
-same-trans : {R : Type 0} (S : Sort) (x y z : Meaning R) → Same S x y → Same S y z → Same S x z
-same-trans (index σ) x y z p q = cc
-same-trans (basis σ) x y z p q = cc
-same-trans scalar x y z p q = ≈-trans p q
-same-trans (ket σ) x y z p q = ≈-trans p q
-same-trans (bra σ) x y z p q = ≈-trans p q
-same-trans (operator σ τ) x y z p q = ≈-trans p q
 
 -- ---- lists
 pub step-decided : StepDecided
@@ -134,6 +125,15 @@ module _ {R : Type 0} (𝓡 : StarSemiring R) where
       let k = run-kept W F p l r n ms in
       (k .left-typed, k .right-typed, k .left-same, k .right-same)
 
+  pub run-proves : RunProves 𝓡
+  run-proves Γ χ W F S p l r n ms e =
+      let k = run-kept W F p l r n ms in
+      same-trans S _ _ _ (k .left-same) (rw e (same-sym S _ _ (k .right-same)))
+
 pub gaussian-steps : GaussianSteps
 unfolding mean
 gaussian-steps Γ χ W F S h t d ss = alike-numbers _ _ .0 (same-alike S _ _ h .0 (steps-keep-meaning gaussian Γ χ W F S t d ss))
+
+pub gaussian-run : GaussianRun
+unfolding mean
+gaussian-run Γ χ W F S h p l r n ms e = alike-numbers _ _ .0 (same-alike S _ _ h .0 (run-proves gaussian Γ χ W F S p l r n ms e))

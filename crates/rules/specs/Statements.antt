@@ -99,8 +99,19 @@ module _ {R : Type 0} (𝓡 : StarSemiring R) where
       Typed Γ S (q .left) × Typed Γ S (q .right)
       × Same S (stands 𝓡 Γ χ (p .left)) (stands 𝓡 Γ χ (q .left)) × Same S (stands 𝓡 Γ χ (p .right)) (stands 𝓡 Γ χ (q .right))
 
+  -- where a run brings both sides to the same end, they stood for the same from the start
+  abbrev pub RunProves : Type 0
+  RunProves =
+      (Γ : Context) (χ : Choice R) → WellFormed Γ → Fits 𝓡 Γ χ → (S : Sort) (p : Sides) → Typed Γ S (p .left) → Typed Γ S (p .right) → (n : ℕ) (ms : List Move)
+      → (let q = runOf Γ n p ms .sides in q .left ≡ q .right) → Same S (stands 𝓡 Γ χ (p .left)) (stands 𝓡 Γ χ (p .right))
+
 -- the same in the words of demand 3, over the Gaussian integers: equal in shape and in the number at each row and column
 abbrev pub GaussianSteps : Type 0
 GaussianSteps =
     (Γ : Context) (χ : Choice Gaussian) → WellFormed Γ → Fits gaussian Γ χ → (S : Sort) → IsType S → (t : Tree) → Typed Γ S t → (ss : List Step)
     → EqualNumbers (mean gaussian Γ χ t) (mean gaussian Γ χ (stepsOf Γ t ss))
+
+abbrev pub GaussianRun : Type 0
+GaussianRun =
+    (Γ : Context) (χ : Choice Gaussian) → WellFormed Γ → Fits gaussian Γ χ → (S : Sort) → IsType S → (p : Sides) → Typed Γ S (p .left) → Typed Γ S (p .right)
+    → (n : ℕ) (ms : List Move) → (let q = runOf Γ n p ms .sides in q .left ≡ q .right) → EqualNumbers (mean gaussian Γ χ (p .left)) (mean gaussian Γ χ (p .right))
