@@ -23,7 +23,7 @@ use Rattle.typing.specs.Sorts.{scalar, ket, bra, operator, index, Contex
 use Rattle.typing.specs.Rules.{_⊢_∶_, type-var, base-prod, Index, Proper, IsType, WellFormed}
 use Rattle.typing.specs.declared.sorts.Index as I
 use Rattle.typing.specs.Records.{indexOf}
-use Rattle.typing.specs.Declarations.{size, upTo, allUpTo, indexWord, indexWords, treeIn, indexIn, typeIn, basisAt, variableAt, basisIn, variableIn, contextIn, goodIndex, isIndex, isVariable, goodBasis, goodVariable, goodDeclarations}
+use Rattle.typing.specs.Declarations.{size, upTo, allUpTo, counted, indexWord, indexWords, treeIn, indexIn, typeIn, basisAt, variableAt, basisIn, variableIn, contextIn, goodIndex, isIndex, isVariable, goodBasis, goodVariable, goodDeclarations}
 
 -- ---- items and tests by their numbers
 pub upTo-at : {A : Type 0} (n : ℕ) (f : ℕ → A) (a : ℕ) → a < n → getElem? (upTo n f) a ≡ O.some (f a)
@@ -277,20 +277,19 @@ pub record GoodDeclarations (ds : List ℕ) : Type 0 where
   pub basis : (a : ℕ) → a < getD ds 1 0 → goodBasis ds a ≡ true
   pub variable : (a : ℕ) → a < getD ds 2 0 → goodVariable ds a ≡ true
 
+pub counts : (a b c : ℕ) → counted a b c ≡ true → (a ≤ maxNames) × (b ≤ maxNames) × (c ≤ maxNames)
+unfolding counted
+counts a b c e =
+    let p = and-eq-true-iff (leb a maxNames) _ .0 e in
+    let q = and-eq-true-iff (leb b maxNames) _ .0 (p .1) in
+    (leb-true _ _ (p .0), leb-true _ _ (q .0), leb-true _ _ (q .1))
+
 pub declarations : (ds : List ℕ) → goodDeclarations ds ≡ true → GoodDeclarations ds
 unfolding goodDeclarations
 declarations ds e =
-    let p = all-four (eqb (length ds) size) (leb (getD ds 0 0) maxNames) (leb (getD ds 1 0) maxNames) _ e in
-    let q = and-eq-true-iff (leb (getD ds 2 0) maxNames) _ .0 (p .3) in
-    let r = and-eq-true-iff (allUpTo (getD ds 1 0) (goodBasis ds)) _ .0 (q .1) in
-    record {
-      long = eqb-true _ _ (p .0);
-      types = leb-true _ _ (p .1);
-      bases = leb-true _ _ (p .2);
-      variables = leb-true _ _ (q .0);
-      basis = allUpTo-at _ _ (r .0);
-      variable = allUpTo-at _ _ (r .1);
-    }
+    let p = all-four (eqb (length ds) size) (counted (getD ds 0 0) (getD ds 1 0) (getD ds 2 0)) (allUpTo (getD ds 1 0) (goodBasis ds)) _ e in
+    let q = counts (getD ds 0 0) (getD ds 1 0) (getD ds 2 0) (p .1) in
+    record { long = eqb-true _ _ (p .0); types = q .0; bases = q .1; variables = q .2; basis = allUpTo-at _ _ (p .2); variable = allUpTo-at _ _ (p .3) }
 
 -- the indices that a variable's kind wants are good
 pub record GoodVariable (ds : List ℕ) (a : ℕ) : Type 0 where

@@ -22,7 +22,7 @@ use Rattle.typing.specs.Conclude.{failure, success, outcomeOf, pairOf, k
 use Rattle.typing.specs.Rules.{IsType}
 use Rattle.typing.specs.Records.{fitting, pad, indexOf, noIndex, sortedOf, productWords, productOf}
 use Rattle.typing.specs.Sorts.{Sort, index, basis, scalar, ket, bra, operator, Context, _⊠_, Short}
-use Rattle.typing.specs.TypeOf.{Conclusion, fails, gives, sameWords, same, short, one, two, toIndex, toBasis, toScalar, toKet, toBra, toOperator, adjointOf, arrayOf, tensorOf, agree, andThen, agreeAll, scalarsOf, sumOf, conclude}
+use Rattle.typing.specs.TypeOf.{Conclusion, fails, gives, sameWords, same, short, toIndex, toBasis, toScalar, toKet, toBra, toOperator, adjointOf, arrayOf, tensorOf, agree, andThen, agreeAll, scalarsOf, sumOf, conclude}
 use Rattle.typing.proofs.Complete.{same-words}
 
 -- ---- words are not zero, so the zeros behind an index do not make two indices the same

@@ -6,7 +6,7 @@ use mathlib.Core.List.{List}
 use Prim.Native.Nat.{ℕ, suc, _+_, _≤_, _<_}
 use native.Mathlib.Numerals.{add-one}
 use native.Mathlib.Omega.{arith}
-use borrow.Author.Tests.{leb-true, eqb-true, eqb-false}
+use borrow.Author.Tests.{eqb-true, eqb-false}
 use lib.Dec.{eqb, leb}
 use lib.ListN.{length, drop, getD, set, drop-of-length-le}
 use lib.Seq.{drop-cons, sets}
@@ -14,7 +14,7 @@ use Rattle.term.specs.Terms.{maxIndex, maxNames}
 use Rattle.typing.specs.declared.constructor.Put.the-variants.{Done, WrongSize, Full, Bad}
 use Rattle.typing.specs.Declarations.{size, basisAt, variableAt, isIndex, isVariable}
 use Rattle.typing.specs.Put.{room, basisPut, variablePut}
-use Rattle.typing.proofs.Entries.{good, turned}
+use Rattle.typing.proofs.Entries.{good, turned, counts}
 
 -- ---- a run of stores, one more and none more
 module _ (ds : List ℕ) (at : ℕ) (ws : List ℕ) where
@@ -54,9 +54,8 @@ pub room-done : (ds : List ℕ) (k : ℕ) → room ds k ≡ Done
 unfolding room
 room-done ds k h =
     let p = tests-of (eqb (length ds) size) _ (eqb (getD ds k 0) maxNames) h in
-    let q = and-eq-true-iff (leb (getD ds 0 0) maxNames) _ .0 (p .1) in
-    let r = and-eq-true-iff (leb (getD ds 1 0) maxNames) _ .0 (q .1) in
-    (eqb-true _ _ (p .0), leb-true _ _ (r .0), leb-true _ _ (r .1), eqb-false _ _ (p .2))
+    let q = counts (getD ds 0 0) (getD ds 1 0) (getD ds 2 0) (p .1) in
+    (eqb-true _ _ (p .0), q .1, q .2, eqb-false _ _ (p .2))
 
 -- ---- what fits is short
 pub index-few : (N : ℕ) (ws : List ℕ) → isIndex N ws ≡ true → length ws ≤ maxIndex

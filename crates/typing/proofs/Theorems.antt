@@ -13,7 +13,7 @@ use Rattle.term.specs.Trees.{Tree, none, _▹_, words, depth}
 use Rattle.term.proofs.Parsing.{parse-tree}
 use Rattle.term.proofs.TermTest.{term-in, tree-term}
 use Rattle.typing.specs.declared.terms.Typing as A
-use Rattle.typing.specs.Answers.{refuse, typing, answerOf, typingOf, TypedTerm}
+use Rattle.typing.specs.Answers.{refuse, answerOf, typingOf, TypedTerm}
 use Rattle.typing.specs.Declarations.{treeIn, contextIn, namesIn, goodDeclarations}
 use Rattle.typing.specs.First.{HasSort, FirstUntyped}
 use Rattle.typing.specs.Rules.{IsType}

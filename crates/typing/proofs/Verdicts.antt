@@ -10,7 +10,7 @@ use lib.ListN.{length, take, drop, getD, length-drop, drop-of-length-le}
 use lib.Seq.{take-all}
 use Rattle.term.specs.Heads.{Label, labelled, read, arityOf}
 use Rattle.term.specs.declared.heads.Arity.the-variants.{Unknown, Children}
-use Rattle.term.specs.Trees.{Tree, Forest, node, none, _▹_, count, _⧺_, words, words*, depth, depth*, found}
+use Rattle.term.specs.Trees.{Tree, Forest, node, none, _▹_, count, _⧺_, words, words*, depth, depth*}
 use Rattle.term.specs.Parts.{parse, first, part}
 use Rattle.term.specs.Terms.{firstDepth, partDepth}
 use Rattle.term.proofs.Parsing.{some-words}

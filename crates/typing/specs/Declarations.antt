@@ -97,15 +97,17 @@ unfoldable pub allUpTo : ℕ → (ℕ → Bool) → Bool
 allUpTo zero f = true
 allUpTo (suc n) f = f 0 && allUpTo n λ k. f (suc k)
 
+-- "Names are 0 to 31": no count is above 32
+unfoldable pub counted : ℕ → ℕ → ℕ → Bool
+counted types bases variables = leb types maxNames && (leb bases maxNames && leb variables maxNames)
+
 unfoldable pub goodDeclarations : List ℕ → Bool
-unfolding allUpTo goodBasis goodVariable
+unfolding counted allUpTo goodBasis goodVariable
 goodDeclarations ds =
     eqb (length ds) size
-    && (leb (getD ds 0 0) maxNames
-    && (leb (getD ds 1 0) maxNames
-    && (leb (getD ds 2 0) maxNames
+    && (counted (getD ds 0 0) (getD ds 1 0) (getD ds 2 0)
     && (allUpTo (getD ds 1 0) (goodBasis ds)
-    && allUpTo (getD ds 2 0) (goodVariable ds)))))
+    && allUpTo (getD ds 2 0) (goodVariable ds)))
 
 -- how many names of each kind are declared; none in a slice that is not of the size
 unfoldable pub namesIn : List ℕ → Names

@@ -1,5 +1,5 @@
 -- Putting names into declarations: what the calls answer, and the words that they leave.
-use mathlib.Core.Bool.{Bool, cond, _&&_}
+use mathlib.Core.Bool.{Bool, cond}
 use mathlib.Core.List.{List, _∷_}
 use Prim.Native.Nat.{ℕ, _+_}
 use lib.Dec.{eqb, leb}
@@ -9,7 +9,7 @@ use Rattle.term.specs.Terms.{maxNames}
 use Rattle.term.specs.Words.{cleared}
 use Rattle.typing.specs.declared.constructor.Put.{Put}
 use Rattle.typing.specs.declared.constructor.Put.the-variants.{Done, WrongSize, Full, Bad}
-use Rattle.typing.specs.Declarations.{size, basisAt, variableAt}
+use Rattle.typing.specs.Declarations.{size, basisAt, variableAt, counted}
 
 -- the words that a call leaves: what it made where it is done, and else what it was lent
 unfoldable pub leaves : Put → List ℕ → List ℕ → List ℕ
@@ -29,7 +29,7 @@ started ds types = set (cleared ds 0) 0 types
 unfoldable pub room : List ℕ → ℕ → Put
 room ds k =
     cond (eqb (length ds) size)
-    (cond (leb (getD ds 0 0) maxNames && (leb (getD ds 1 0) maxNames && leb (getD ds 2 0) maxNames))
+    (cond (counted (getD ds 0 0) (getD ds 1 0) (getD ds 2 0))
     (cond (eqb (getD ds k 0) maxNames) Full Done)
     Bad)
     WrongSize

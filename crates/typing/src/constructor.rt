@@ -1,5 +1,6 @@
 // Declarations put together: a number of types, then one name after the other. What does not fit is refused and changes nothing.
 use crate::declarations::SIZE;
+use crate::declarations::are_counts;
 use crate::declarations::is_index;
 use crate::declarations::is_variable;
 use term::words::clear_from;
@@ -41,13 +42,7 @@ fn room_for(ds: &[u16], k: usize) -> Put
     if ds.len() != SIZE {
         return Put::WrongSize;
     }
-    if 32 < ds[0] {
-        return Put::Bad;
-    }
-    if 32 < ds[1] {
-        return Put::Bad;
-    }
-    if 32 < ds[2] {
+    if !are_counts(ds[0], ds[1], ds[2]) {
         return Put::Bad;
     }
     if ds[k] == 32 {

@@ -6,7 +6,7 @@ ghost use mathlib.Core.Bool.{true, cond};
 ghost use Prim.Native.Nat.{_+_, _≤_, _<_};
 ghost use lib.Dec.{eqb};
 ghost use lib.ListN.{length, getD};
-ghost use Rattle.typing.specs.Declarations.{indexWord, indexWords, isIndex, isVariable, goodBasis, goodVariable, allUpTo, goodDeclarations, namesIn};
+ghost use Rattle.typing.specs.Declarations.{indexWord, indexWords, isIndex, isVariable, goodBasis, goodVariable, allUpTo, counted, goodDeclarations, namesIn};
 
 // The words of all declarations, used or not.
 pub const SIZE: usize = 6179;
@@ -144,6 +144,19 @@ fn variables_are_good(ds: &[u16]) -> bool
     true
 }
 
+// Whether no count is above the names that there are.
+pub(crate) fn are_counts(types: u16, bases: u16, variables: u16) -> bool
+    ensures { λ r. ⌜ r ≡ counted types bases variables ⌝ }
+{
+    if 32 < types {
+        return false;
+    }
+    if 32 < bases {
+        return false;
+    }
+    variables <= 32
+}
+
 // Whether a slice is good declarations: of the size, and each entry exactly the indices wanted, within the limits and the names.
 pub fn are_good(ds: &[u16]) -> bool
     ensures { λ r. ⌜ r ≡ goodDeclarations (now (ds .entry)) ⌝ }
@@ -151,13 +164,7 @@ pub fn are_good(ds: &[u16]) -> bool
     if ds.len() != SIZE {
         return false;
     }
-    if 32 < ds[0] {
-        return false;
-    }
-    if 32 < ds[1] {
-        return false;
-    }
-    if 32 < ds[2] {
+    if !are_counts(ds[0], ds[1], ds[2]) {
         return false;
     }
     if !bases_are_good(ds) {

@@ -1,8 +1,9 @@
 -- Each answer is the first condition of the definition that fails, or the last one.
 use mathlib.Core.Path.{sym, _∙_}
-use borrow.Author.Tests.{eq-eqb, ne-eqb, le-leb, lt-leb, not-true, not-false}
+use borrow.Author.Tests.{eq-eqb, ne-eqb, not-true, not-false}
 use borrow.Author.Needs.{needs}
 use Rattle.typing.specs.Declarations.{goodDeclarations}
+use Rattle.typing.proofs.Entries.{counts}
 use Rattle.typing.proofs.declarations.are_good.Statement.{statement}
 use Rattle.typing.proofs.declarations.are_good.Tie as tie
 
@@ -10,57 +11,51 @@ returns : tie.Need-returns
 unfolding goodDeclarations
 returns c = rw (ne-eqb _ _ (c .if1 .taken))
 
-shared-slice-read-if2 : tie.Need-shared-slice-read-if2
-shared-slice-read-if2 c = search needs
+shared-slice-read-are-counts : tie.Need-shared-slice-read-are-counts
+shared-slice-read-are-counts c = search needs
+
+shared-slice-read-are-counts-2 : tie.Need-shared-slice-read-are-counts-2
+shared-slice-read-are-counts-2 c = search needs
+
+shared-slice-read-are-counts-3 : tie.Need-shared-slice-read-are-counts-3
+shared-slice-read-are-counts-3 c = search needs
+
+are-counts-requires : tie.Need-are-counts-requires
+are-counts-requires c κs = search needs
 
 returns-2 : tie.Need-returns-2
 unfolding goodDeclarations
-returns-2 c = rw (eq-eqb _ _ (c .before .before .if1 .left), lt-leb _ _ (c .if2 .taken))
+returns-2 c = rw (eq-eqb _ _ (c .before .before .before .before .before .if1 .left), sym (c .before .are-counts .ensures) ∙ not-true _ (c .if2 .taken))
 
-shared-slice-read-if3 : tie.Need-shared-slice-read-if3
-shared-slice-read-if3 c = search needs
+bases-are-good-requires : tie.Need-bases-are-good-requires
+bases-are-good-requires c κs = (search needs, counts _ _ _ (sym (c .before .are-counts .ensures) ∙ not-false _ (c .if2 .left)) .1)
 
 returns-3 : tie.Need-returns-3
 unfolding goodDeclarations
-returns-3 c = rw (eq-eqb _ _ (c .before .before .before .before .if1 .left), le-leb _ _ (c .before .before .if2 .left), lt-leb _ _ (c .if3 .taken))
+returns-3 c =
+    let e = sym (c .before .bases-are-good .ensures) ∙ not-true _ (c .if3 .taken) in
+    rw (eq-eqb _ _ (c .before .before .before .before .before .before .before .if1 .left), sym (c .before .before .before .are-counts .ensures) ∙ not-false _ (c .before .before .if2 .left), e)
 
-shared-slice-read-if4 : tie.Need-shared-slice-read-if4
-shared-slice-read-if4 c = search needs
+variables-are-good-requires : tie.Need-variables-are-good-requires
+variables-are-good-requires c κs = (search needs, counts _ _ _ (sym (c .before .before .before .are-counts .ensures) ∙ not-false _ (c .before .before .if2 .left)) .2)
 
 returns-4 : tie.Need-returns-4
 unfolding goodDeclarations
-returns-4 c = rw (eq-eqb _ _ (c .before .before .before .before .before .before .if1 .left), le-leb _ _ (c .before .before .before .before .if2 .left), le-leb _ _ (c .before .before .if3 .left), lt-leb _ _ (c .if4 .taken))
-
-bases-are-good-requires : tie.Need-bases-are-good-requires
-bases-are-good-requires c κs = search needs
-
-returns-5 : tie.Need-returns-5
-unfolding goodDeclarations
-returns-5 c =
-    let e = sym (c .before .bases-are-good .ensures) ∙ not-true _ (c .if5 .taken) in
-    rw (eq-eqb _ _ (c .before .before .before .before .before .before .before .before .if1 .left), le-leb _ _ (c .before .before .before .before .before .before .if2 .left), le-leb _ _ (c .before .before .before .before .if3 .left), le-leb _ _ (c .before .before .if4 .left), e)
-
-variables-are-good-requires : tie.Need-variables-are-good-requires
-variables-are-good-requires c κs = search needs
-
-returns-6 : tie.Need-returns-6
-unfolding goodDeclarations
-returns-6 c =
-    let e = sym (c .before .before .bases-are-good .ensures) ∙ not-false _ (c .before .if5 .left) in
-    rw (eq-eqb _ _ (c .before .before .before .before .before .before .before .before .before .if1 .left), le-leb _ _ (c .before .before .before .before .before .before .before .if2 .left), le-leb _ _ (c .before .before .before .before .before .if3 .left), le-leb _ _ (c .before .before .before .if4 .left), e) (c .variables-are-good .ensures)
+returns-4 c =
+    let e = sym (c .before .before .bases-are-good .ensures) ∙ not-false _ (c .before .if3 .left) in
+    rw (eq-eqb _ _ (c .before .before .before .before .before .before .before .before .if1 .left), sym (c .before .before .before .before .are-counts .ensures) ∙ not-false _ (c .before .before .before .if2 .left), e) (c .variables-are-good .ensures)
 
 pub are-good-spec : {M : Type 1} → statement M
 are-good-spec =
     tie.close
     (tie.spec
     returns
-    shared-slice-read-if2
+    shared-slice-read-are-counts
+    shared-slice-read-are-counts-2
+    shared-slice-read-are-counts-3
+    are-counts-requires
     returns-2
-    shared-slice-read-if3
-    returns-3
-    shared-slice-read-if4
-    returns-4
     bases-are-good-requires
-    returns-5
+    returns-3
     variables-are-good-requires
-    returns-6)
+    returns-4)
