@@ -1,6 +1,5 @@
 -- Congruence: a part gives way to any part of its sort that stands for the same, and the whole still stands for the same.
 use mathlib.Core.Path.{_≡_, refl}
-use mathlib.Core.List.{List}
 use Prim.Native.Nat.{ℕ, zero, suc, _-_, _≤_}
 use native.Mathlib.Decide.{decLt}
 use native.Mathlib.Omega.{arith}
@@ -12,10 +11,10 @@ use Rattle.algebra.proofs.Alike.{≈-refl, ≡→≈, number-≈, add-≈, scal
 use Rattle.algebra.proofs.Shapes.{same-rows, same-columns, conformable}
 use Rattle.term.specs.Heads.{Label}
 use Rattle.term.specs.Trees.{Tree, Forest, node, none, _▹_, words, found, subtree, subtree*, replace, replace*}
-use Rattle.typing.specs.Sorts.{Sort, scalar, ket, bra, operator, Context}
-use Rattle.typing.specs.Rules.{_⊢_∶_, _⊢*_∶_, every-none, every-more, type-var, basis-var, term-var, sca-0, sca-1, sca-delta, sca-add, sca-mul, sca-conj, sca-dot, base-prod, pair-base, ket-0, ket-base, ket-adj, ket-scr, ket-add, ket-mulk, ket-tsr, bra-0, bra-base, bra-adj, bra-scr, bra-add, bra-mulb, bra-tsr, opt-0, opt-1, opt-adj, opt-scr, opt-add, opt-outer, opt-mulo, opt-tsr, WellFormed}
+use Rattle.types.specs.Sorts.{Sort, scalar, ket, bra, operator, Context}
+use Rattle.types.specs.Rules.{_⊢_∶_, _⊢*_∶_, every-none, every-more, type-var, basis-var, term-var, sca-0, sca-1, sca-delta, sca-add, sca-mul, sca-conj, sca-dot, base-prod, pair-base, ket-0, ket-base, ket-adj, ket-scr, ket-add, ket-mulk, ket-tsr, bra-0, bra-base, bra-adj, bra-scr, bra-add, bra-mulb, bra-tsr, opt-0, opt-1, opt-adj, opt-scr, opt-add, opt-outer, opt-mulo, opt-tsr, WellFormed}
 use Rattle.meaning.specs.Choices.{Choice, Meaning, a-term, an-index, a-basis}
-use Rattle.meaning.specs.Meaning.{first, second, plus, total, times, product, meaningOf, meaning, meanings, names, stands}
+use Rattle.meaning.specs.Meaning.{first, second, plus, total, times, product, meaningOf, meaning, stands, stands*}
 use Rattle.meaning.specs.Sorted.{Proper, Fits, Same}
 use Rattle.meaning.proofs.Sameness.{same-refl}
 use Rattle.meaning.proofs.Shapes.{plus-shape, shape}
@@ -45,31 +44,28 @@ module _ {R : Type 0} (𝓡 : StarSemiring R) {Γ : Context} {χ : Choice R} (W 
   serves-all none = no-more
   serves-all (t ▹ f) = one-more (serves-itself t) (serves-all f)
 
-  abbrev all : Forest → List (Meaning R)
-  all f = meanings 𝓡 (names 𝓡 Γ χ) f
-
   -- children of a sum, at any sort of matrices of one shape
   module _ (S : Sort) {m n : ℕ} (shaped : (x : Meaning R) → Proper 𝓡 χ S x → Shape (x .matrix) m n)
       (alike : (x y : Meaning R) → Same S x y → x .matrix ≈ y .matrix) where
     sum-serves : {A B : Matrix R} {f g : Forest} → Shape A m n → A ≈ B → Γ ⊢* f ∶ S → Serves* f g
-        → (Γ ⊢* g ∶ S) × (plus 𝓡 A (all f) ≈ plus 𝓡 B (all g))
+        → (Γ ⊢* g ∶ S) × (plus 𝓡 A (stands* 𝓡 Γ χ f) ≈ plus 𝓡 B (stands* 𝓡 Γ χ g))
     unfolding plus meaning stands
     sum-serves s p every-none no-more = (every-none, p)
     sum-serves s p (every-more {f} d ds) (one-more x xs) =
         let y = x S d in
         let a = shaped _ (shape 𝓡 W F d) in
         let ys = sum-serves a (alike _ _ (y .1)) ds xs in
-        let b = plus-shape 𝓡 (all f) a in
+        let b = plus-shape 𝓡 (stands* 𝓡 Γ χ f) a in
         (every-more (y .0) (ys .0), add-≈ 𝓡 (same-rows s b) (same-columns s b) p (ys .1))
 
     sum-of : {A : Type 0} {t u : Tree} {f g : Forest} → Serves t u → Serves* f g → Γ ⊢ t ∶ S → Γ ⊢* f ∶ S → (Γ ⊢ u ∶ S → Γ ⊢* g ∶ S → A)
-        → A × (plus 𝓡 (stands 𝓡 Γ χ t .matrix) (all f) ≈ plus 𝓡 (stands 𝓡 Γ χ u .matrix) (all g))
+        → A × (plus 𝓡 (stands 𝓡 Γ χ t .matrix) (stands* 𝓡 Γ χ f) ≈ plus 𝓡 (stands 𝓡 Γ χ u .matrix) (stands* 𝓡 Γ χ g))
     sum-of s ss a f rule =
         let x = s S a in
         let xs = sum-serves (shaped _ (shape 𝓡 W F a)) (alike _ _ (x .1)) f ss in
         (rule (x .0) (xs .0), xs .1)
 
-  product-serves : {f g : Forest} → Γ ⊢* f ∶ scalar → Serves* f g → (Γ ⊢* g ∶ scalar) × (times 𝓡 (all f) ≡ times 𝓡 (all g))
+  product-serves : {f g : Forest} → Γ ⊢* f ∶ scalar → Serves* f g → (Γ ⊢* g ∶ scalar) × (times 𝓡 (stands* 𝓡 Γ χ f) ≡ times 𝓡 (stands* 𝓡 Γ χ g))
   unfolding times meaning stands
   product-serves every-none no-more = (every-none, refl)
   product-serves (every-more d ds) (one-more x xs) =
@@ -80,9 +76,6 @@ module _ {R : Type 0} (𝓡 : StarSemiring R) {Γ : Context} {χ : Choice R} (W 
   -- ---- one line for each rule: the rule again, and the law of its operation
   abbrev Alike : Sort → Tree → Tree → Type 0
   Alike S t u = Same S (stands 𝓡 Γ χ t) (stands 𝓡 Γ χ u)
-
-  abbrev sh : {t : Tree} {S : Sort} → Γ ⊢ t ∶ S → Proper 𝓡 χ S (stands 𝓡 Γ χ t)
-  sh d = shape 𝓡 W F d
 
   one : {A B : Type 0} {t u : Tree} {S : Sort} → Serves t u → Γ ⊢ t ∶ S → (Γ ⊢ u ∶ S → A) → (Γ ⊢ u ∶ S → Alike S t u → B) → A × B
   one s a rule law = let x = s _ a in (rule (x .0), law (x .0) (x .1))
@@ -106,31 +99,31 @@ module _ {R : Type 0} (𝓡 : StarSemiring R) {Γ : Context} {χ : Choice R} (W 
   congruent (sca-mul a f) (serve (one-more s ss)) =
       let xs = product-serves (every-more a f) (one-more s ss) in
       (sca-mul (s _ a .0) (product-serves f ss .0), ≡→≈ (cc (xs .1)))
-  congruent (sca-conj a) (serve (one-more s no-more)) = one s a (λ p. sca-conj p) (λ p x. ≡→≈ (cc (same-number (sh a) x)))
-  congruent (sca-dot a b) (serve (one-more s (one-more t no-more))) = two s t a b (λ p q. sca-dot p q) (λ p q. mul-≈ 𝓡 (conformable (sh a) (sh b)))
+  congruent (sca-conj a) (serve (one-more s no-more)) = one s a (λ p. sca-conj p) (λ p x. ≡→≈ (cc (same-number (shape 𝓡 W F a) x)))
+  congruent (sca-dot a b) (serve (one-more s (one-more t no-more))) = two s t a b (λ p q. sca-dot p q) (λ p q. mul-≈ 𝓡 (conformable (shape 𝓡 W F a) (shape 𝓡 W F b)))
   congruent (base-prod a b h) (serve (one-more s (one-more t no-more))) = two s t a b (λ p q. base-prod p q h) (λ p q x y. cc (x, y))
-  congruent (pair-base a b h) (serve (one-more s (one-more t no-more))) = two s t a b (λ p q. pair-base p q h) (λ p q x y. cc (x, y, sh b .0, sh q .0))
+  congruent (pair-base a b h) (serve (one-more s (one-more t no-more))) = two s t a b (λ p q. pair-base p q h) (λ p q x y. cc (x, y, shape 𝓡 W F b .0, shape 𝓡 W F q .0))
   congruent (ket-0 a) (serve (one-more s no-more)) = one s a (λ p. ket-0 p) (λ p x. ≡→≈ (cc x))
-  congruent (ket-base a) (serve (one-more s no-more)) = one s a (λ p. ket-base p) (λ p x. ≡→≈ (cc (x, sh a .0, sh p .0)))
+  congruent (ket-base a) (serve (one-more s no-more)) = one s a (λ p. ket-base p) (λ p x. ≡→≈ (cc (x, shape 𝓡 W F a .0, shape 𝓡 W F p .0)))
   congruent (ket-adj a) (serve (one-more s no-more)) = one s a (λ p. ket-adj p) (λ p. adjoint-≈ 𝓡)
-  congruent (ket-scr a b) (serve (one-more s (one-more t no-more))) = two s t a b (λ p q. ket-scr p q) (λ p q x. scale-≈ 𝓡 (same-number (sh a) x))
+  congruent (ket-scr a b) (serve (one-more s (one-more t no-more))) = two s t a b (λ p q. ket-scr p q) (λ p q x. scale-≈ 𝓡 (same-number (shape 𝓡 W F a) x))
   congruent (ket-add {σ} a f) (serve (one-more s ss)) = sum-of (ket σ) (λ x p. p) (λ x y p. p) s ss a f (λ p q. ket-add p q)
-  congruent (ket-mulk a b) (serve (one-more s (one-more t no-more))) = two s t a b (λ p q. ket-mulk p q) (λ p q. mul-≈ 𝓡 (conformable (sh a) (sh b)))
+  congruent (ket-mulk a b) (serve (one-more s (one-more t no-more))) = two s t a b (λ p q. ket-mulk p q) (λ p q. mul-≈ 𝓡 (conformable (shape 𝓡 W F a) (shape 𝓡 W F b)))
   congruent (ket-tsr a b h) (serve (one-more s (one-more t no-more))) = two s t a b (λ p q. ket-tsr p q h) (λ p q. kronecker-≈ 𝓡)
   congruent (bra-0 a) (serve (one-more s no-more)) = one s a (λ p. bra-0 p) (λ p x. ≡→≈ (cc x))
-  congruent (bra-base a) (serve (one-more s no-more)) = one s a (λ p. bra-base p) (λ p x. ≡→≈ (cc (x, sh a .0, sh p .0)))
+  congruent (bra-base a) (serve (one-more s no-more)) = one s a (λ p. bra-base p) (λ p x. ≡→≈ (cc (x, shape 𝓡 W F a .0, shape 𝓡 W F p .0)))
   congruent (bra-adj a) (serve (one-more s no-more)) = one s a (λ p. bra-adj p) (λ p. adjoint-≈ 𝓡)
-  congruent (bra-scr a b) (serve (one-more s (one-more t no-more))) = two s t a b (λ p q. bra-scr p q) (λ p q x. scale-≈ 𝓡 (same-number (sh a) x))
+  congruent (bra-scr a b) (serve (one-more s (one-more t no-more))) = two s t a b (λ p q. bra-scr p q) (λ p q x. scale-≈ 𝓡 (same-number (shape 𝓡 W F a) x))
   congruent (bra-add {σ} a f) (serve (one-more s ss)) = sum-of (bra σ) (λ x p. p) (λ x y p. p) s ss a f (λ p q. bra-add p q)
-  congruent (bra-mulb a b) (serve (one-more s (one-more t no-more))) = two s t a b (λ p q. bra-mulb p q) (λ p q. mul-≈ 𝓡 (conformable (sh a) (sh b)))
+  congruent (bra-mulb a b) (serve (one-more s (one-more t no-more))) = two s t a b (λ p q. bra-mulb p q) (λ p q. mul-≈ 𝓡 (conformable (shape 𝓡 W F a) (shape 𝓡 W F b)))
   congruent (bra-tsr a b h) (serve (one-more s (one-more t no-more))) = two s t a b (λ p q. bra-tsr p q h) (λ p q. kronecker-≈ 𝓡)
   congruent (opt-0 a b) (serve (one-more s (one-more t no-more))) = two s t a b (λ p q. opt-0 p q) (λ p q x y. ≡→≈ (cc (x, y)))
   congruent (opt-1 a) (serve (one-more s no-more)) = one s a (λ p. opt-1 p) (λ p x. ≡→≈ (cc x))
   congruent (opt-adj a) (serve (one-more s no-more)) = one s a (λ p. opt-adj p) (λ p. adjoint-≈ 𝓡)
-  congruent (opt-scr a b) (serve (one-more s (one-more t no-more))) = two s t a b (λ p q. opt-scr p q) (λ p q x. scale-≈ 𝓡 (same-number (sh a) x))
+  congruent (opt-scr a b) (serve (one-more s (one-more t no-more))) = two s t a b (λ p q. opt-scr p q) (λ p q x. scale-≈ 𝓡 (same-number (shape 𝓡 W F a) x))
   congruent (opt-add {σ} {τ} a f) (serve (one-more s ss)) = sum-of (operator σ τ) (λ x p. p) (λ x y p. p) s ss a f (λ p q. opt-add p q)
-  congruent (opt-outer a b) (serve (one-more s (one-more t no-more))) = two s t a b (λ p q. opt-outer p q) (λ p q. mul-≈ 𝓡 (conformable (sh a) (sh b)))
-  congruent (opt-mulo a b) (serve (one-more s (one-more t no-more))) = two s t a b (λ p q. opt-mulo p q) (λ p q. mul-≈ 𝓡 (conformable (sh a) (sh b)))
+  congruent (opt-outer a b) (serve (one-more s (one-more t no-more))) = two s t a b (λ p q. opt-outer p q) (λ p q. mul-≈ 𝓡 (conformable (shape 𝓡 W F a) (shape 𝓡 W F b)))
+  congruent (opt-mulo a b) (serve (one-more s (one-more t no-more))) = two s t a b (λ p q. opt-mulo p q) (λ p q. mul-≈ 𝓡 (conformable (shape 𝓡 W F a) (shape 𝓡 W F b)))
   congruent (opt-tsr a b h k) (serve (one-more s (one-more t no-more))) = two s t a b (λ p q. opt-tsr p q h k) (λ p q. kronecker-≈ 𝓡)
 
   -- ---- at an offset

@@ -8,8 +8,8 @@ use Rattle.algebra.specs.Semirings.{StarSemiring}
 use Rattle.algebra.specs.Matrices.{Matrix, zeros}
 use Rattle.algebra.proofs.Shapes.{shape-zeros}
 use Rattle.term.specs.Trees.{Tree}
-use Rattle.typing.specs.Sorts.{Sort, index, basis, scalar, ket, bra, operator, Context}
-use Rattle.typing.specs.Rules.{_⊢_∶_, type-var, term-var, base-prod, WellFormed}
+use Rattle.types.specs.Sorts.{Sort, index, basis, scalar, ket, bra, operator, Context}
+use Rattle.types.specs.Rules.{_⊢_∶_, type-var, term-var, base-prod, WellFormed}
 use Rattle.meaning.specs.Choices.{Choice, an-index, a-basis}
 use Rattle.meaning.specs.Meaning.{first, second, meaningOf, meaning, dimension}
 use Rattle.meaning.specs.Sorted.{Shaped, Fits}

@@ -1,7 +1,7 @@
 -- To stand for the same is an equivalence, at every sort.
 use mathlib.Core.Path.{refl}
 use Rattle.algebra.proofs.Alike.{≈-refl, ≈-sym, ≈-trans}
-use Rattle.typing.specs.Sorts.{Sort, index, basis, scalar, ket, bra, operator}
+use Rattle.types.specs.Sorts.{Sort, index, basis, scalar, ket, bra, operator}
 use Rattle.meaning.specs.Choices.{Meaning}
 use Rattle.meaning.specs.Sorted.{Same}
 

@@ -10,7 +10,7 @@ use Rattle.algebra.specs.Gaussian.{Gaussian, add as add-numbers, mul as multipl
 use Rattle.algebra.proofs.Gaussian.{gaussian}
 use Rattle.term.specs.Heads.{Label, type-name, basis-name, variable, index-product, pair, scalar-one, scalar-sum, scalar-product, conjugate, delta, dot, zero-operator, identity, basis-ket, basis-bra, adjoint, scale, add, tensor, mulk, outer, mulo}
 use Rattle.term.specs.Trees.{Tree, node, none, _▹_}
-use Rattle.typing.specs.Sorts.{scalar, ket, operator, Context}
+use Rattle.types.specs.Sorts.{scalar, ket, operator, Context}
 use Rattle.meaning.specs.Choices.{Choice, an-index, a-basis, a-term, nothing}
 use Rattle.meaning.specs.Meaning.{first, second, plus, total, times, product, meaningOf, meaning, dimension, declared, names, stands, position, mean}
 

@@ -7,8 +7,8 @@ use Rattle.algebra.specs.Semirings.{StarSemiring}
 use Rattle.algebra.specs.Matrices.{Matrix, Shape}
 use Rattle.algebra.proofs.Shapes.{shape-scalar, shape-zeros, shape-identity, shape-unit-column, shape-unit-row, shape-add, shape-scale, shape-mul, shape-adjoint, shape-kronecker}
 use Rattle.term.specs.Trees.{Tree}
-use Rattle.typing.specs.Sorts.{Sort, index, basis, scalar, ket, bra, operator, Context}
-use Rattle.typing.specs.Rules.{_⊢_∶_, type-var, basis-var, term-var, sca-0, sca-1, sca-delta, sca-add, sca-mul, sca-conj, sca-dot, base-prod, pair-base, ket-0, ket-base, ket-adj, ket-scr, ket-add, ket-mulk, ket-tsr, bra-0, bra-base, bra-adj, bra-scr, bra-add, bra-mulb, bra-tsr, opt-0, opt-1, opt-adj, opt-scr, opt-add, opt-outer, opt-mulo, opt-tsr, IsType, WellFormed}
+use Rattle.types.specs.Sorts.{Sort, index, basis, scalar, ket, bra, operator, Context}
+use Rattle.types.specs.Rules.{_⊢_∶_, type-var, basis-var, term-var, sca-0, sca-1, sca-delta, sca-add, sca-mul, sca-conj, sca-dot, base-prod, pair-base, ket-0, ket-base, ket-adj, ket-scr, ket-add, ket-mulk, ket-tsr, bra-0, bra-base, bra-adj, bra-scr, bra-add, bra-mulb, bra-tsr, opt-0, opt-1, opt-adj, opt-scr, opt-add, opt-outer, opt-mulo, opt-tsr, IsType, WellFormed}
 use Rattle.meaning.specs.Choices.{Choice, Meaning, a-term, an-index, a-basis}
 use Rattle.meaning.specs.Meaning.{first, second, plus, total, product, meaningOf, meaning, dimension, declared, names, stands}
 use Rattle.meaning.specs.Sorted.{Shaped, Proper, Fits}

@@ -5,9 +5,9 @@ use Rattle.algebra.specs.Semirings.{StarSemiring}
 use Rattle.algebra.specs.Matrices.{Matrix, _≈_}
 use Rattle.algebra.specs.Gaussian.{Gaussian}
 use Rattle.algebra.proofs.Gaussian.{gaussian}
-use Rattle.typing.specs.Sorts.{Sort, index, basis, scalar, ket, bra, operator}
-use Rattle.typing.specs.Rules.{IsType}
-use Rattle.typing.proofs.Complete.{unique}
+use Rattle.types.specs.Sorts.{Sort, index, basis, scalar, ket, bra, operator}
+use Rattle.types.specs.Rules.{IsType}
+use Rattle.types.proofs.Complete.{unique}
 use Rattle.meaning.specs.Choices.{Choice, Meaning}
 use Rattle.meaning.specs.Meaning.{mean}
 use Rattle.meaning.specs.Sorted.{Shaped, Proper, Same}

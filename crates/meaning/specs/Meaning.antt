@@ -7,7 +7,7 @@ use Rattle.algebra.specs.Semirings.{StarSemiring}
 use Rattle.algebra.specs.Matrices.{Matrix, number, kronecker-delta, zeros, identity as identity-matrix, unit-column, unit-row, scalar, add as add-matrix, scale as scale-matrix, mul, adjoint as adjoint-matrix, kronecker}
 use Rattle.term.specs.Heads.{Label, type-name, basis-name, variable, index-product, pair, scalar-zero, scalar-one, scalar-sum, scalar-product, conjugate, delta, dot, zero-ket, zero-bra, zero-operator, identity, basis-ket, basis-bra, adjoint, scale, add, tensor, mulk, mulb, outer, mulo}
 use Rattle.term.specs.Trees.{Tree, Forest, node, none, _▹_}
-use Rattle.typing.specs.Sorts.{Context}
+use Rattle.types.specs.Sorts.{Context}
 use Rattle.meaning.specs.Choices.{Choice, Meaning, Names, an-index, a-basis, a-term, nothing}
 
 module _ {R : Type 0} (𝓡 : StarSemiring R) where
@@ -106,6 +106,9 @@ module _ {R : Type 0} (𝓡 : StarSemiring R) where
   -- what a part stands for, in a context under a choice; the position of a basis, and the matrix of a term
   unfoldable pub stands : Context → Choice R → Tree → Meaning R
   stands Γ χ t = meaning (names Γ χ) t
+
+  abbrev pub stands* : Context → Choice R → Forest → List (Meaning R)
+  stands* Γ χ f = meanings (names Γ χ) f
 
   unfoldable pub position : Context → Choice R → Tree → ℕ
   position Γ χ s = stands Γ χ s .position

@@ -6,7 +6,7 @@ use lib.ListN.{getElem?}
 use Rattle.algebra.specs.Semirings.{StarSemiring}
 use Rattle.algebra.specs.Matrices.{Matrix, _≈_, Shape}
 use Rattle.term.specs.Trees.{Tree}
-use Rattle.typing.specs.Sorts.{Sort, index, basis, scalar, ket, bra, operator, Context}
+use Rattle.types.specs.Sorts.{Sort, index, basis, scalar, ket, bra, operator, Context}
 use Rattle.meaning.specs.Choices.{Choice, Meaning}
 use Rattle.meaning.specs.Meaning.{dimension}
 

@@ -6,8 +6,8 @@ use Rattle.algebra.specs.Matrices.{Matrix}
 use Rattle.algebra.specs.Gaussian.{Gaussian}
 use Rattle.algebra.proofs.Gaussian.{gaussian}
 use Rattle.term.specs.Trees.{Tree, found, subtree, replace}
-use Rattle.typing.specs.Sorts.{Sort, Context}
-use Rattle.typing.specs.Rules.{_⊢_∶_, IsType, WellFormed}
+use Rattle.types.specs.Sorts.{Sort, Context}
+use Rattle.types.specs.Rules.{_⊢_∶_, IsType, WellFormed}
 use Rattle.meaning.specs.Choices.{Choice}
 use Rattle.meaning.specs.Meaning.{stands, mean}
 use Rattle.meaning.specs.Sorted.{Shaped, Proper, Fits, Same}

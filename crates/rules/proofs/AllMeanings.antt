@@ -7,8 +7,8 @@ use Rattle.algebra.specs.Semirings.{StarSemiring}
 use Rattle.algebra.specs.Matrices.{_≈_}
 use Rattle.term.specs.Heads.{Label, scalar-sum, scalar-product}
 use Rattle.term.specs.Trees.{Tree, Forest, node, none as no-tree, _▹_, _⧺_, count}
-use Rattle.typing.specs.Sorts.{Sort, Context}
-use Rattle.typing.specs.Rules.{_⊢_∶_, WellFormed}
+use Rattle.types.specs.Sorts.{Sort, Context}
+use Rattle.types.specs.Rules.{_⊢_∶_, WellFormed}
 use Rattle.meaning.specs.Choices.{Choice}
 use Rattle.meaning.specs.Sorted.{Fits}
 use Rattle.rules.specs.Patterns.{Pattern}

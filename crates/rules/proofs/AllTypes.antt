@@ -4,8 +4,8 @@ use mathlib.Core.Option.{some}
 use Prim.Native.Nat.{ℕ}
 use Rattle.term.specs.Heads.{Label, scalar-sum, scalar-product, conjugate, dot, adjoint, scale, add, tensor, mulk, mulb, outer, mulo}
 use Rattle.term.specs.Trees.{Tree, Forest, node}
-use Rattle.typing.specs.Sorts.{Sort, Context}
-use Rattle.typing.specs.Rules.{_⊢_∶_, sca-mul, sca-conj, sca-dot, ket-adj, ket-scr, ket-mulk, ket-tsr, bra-adj, bra-scr, bra-mulb, bra-tsr, opt-adj, opt-scr, opt-outer, opt-mulo, opt-tsr, WellFormed}
+use Rattle.types.specs.Sorts.{Sort, Context}
+use Rattle.types.specs.Rules.{_⊢_∶_, sca-mul, sca-conj, sca-dot, ket-adj, ket-scr, ket-mulk, ket-tsr, bra-adj, bra-scr, bra-mulb, bra-tsr, opt-adj, opt-scr, opt-outer, opt-mulo, opt-tsr, WellFormed}
 use Rattle.rules.specs.Patterns.{Pattern}
 use Rattle.rules.specs.Table.{Kind, Which, Summand, Rule, _⇒_▷_, spreading, removing, absorbing, merging, collecting, swapping, table, ruleOf}
 use Rattle.rules.specs.Instances.{Chain, scalar-sums, scalar-products, sums, Instance, equals, spreads, removes, absorbs, merges, collects, swaps}

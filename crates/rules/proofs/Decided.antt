@@ -8,16 +8,16 @@ use native.Mathlib.Omega.{arith}
 use borrow.Author.Tests.{eqb-true, eq-eqb, lt-ltb, ltb-true}
 use lib.Dec.{eqb, ltb}
 use lib.ListN.{length}
+use Rattle.words.specs.Words.{sameWords}
+use Rattle.words.proofs.Runs.{same-words}
 use Rattle.term.specs.Heads.{Label, word, heads, reading, scalar-zero, scalar-sum, scalar-product, scale, add}
 use Rattle.term.specs.Trees.{Tree, Forest, node, none, _▹_, _⧺_, count, words, Formed}
 use Rattle.term.proofs.Readings.{read-at}
 use Rattle.term.proofs.Parsing.{⧺-assoc, count-⧺, Formed*-⧺}
-use Rattle.typing.specs.Sorts.{Context}
-use Rattle.typing.specs.TypeOf.{sameWords}
-use Rattle.typing.proofs.Complete.{same-words}
+use Rattle.types.specs.Sorts.{Context}
 use Rattle.rules.specs.Patterns.{Pattern, sortOf, fill}
 use Rattle.rules.specs.Table.{Kind, any, a-ket, a-bra, an-operator, wanted, Which, child, child-i, Summand, plain, scaled, Rule, _⇒_▷_, spreading, removing, absorbing, merging, collecting, swapping}
-use Rattle.rules.specs.Instances.{Chain, scalar-sums, scalar-products, sums, Stands, spread, summand, factor, Instance, equals, spreads, removes, absorbs, merges, collects, swaps}
+use Rattle.rules.specs.Instances.{Chain, scalar-sums, scalar-products, sums, Picks, spread, summand, factor, Instance, equals, spreads, removes, absorbs, merges, collects, swaps}
 use Rattle.rules.specs.Rewrite.{isHead, match, holes, filled, Opened, open-at, spreadAt, removeAt, absorbAt, mergeAt, swapAt, Multiple, no-multiple, multiple, multipleOf, collected, collectBefore, collectAt, isChain, place, usable, rewrite}
 use Rattle.rules.proofs.Known.{nameless, is-head, head-is}
 use Rattle.rules.proofs.Good.{met, inOrder, below, asked, good, Good, both, all-three}
@@ -25,15 +25,15 @@ use Rattle.rules.proofs.Opening.{At, too-far, there, at, open-⧺}
 use Rattle.rules.proofs.Matching.{Agrees, fill-agrees, meets, no-answer, cond-some, same-part, none-formed, matched}
 
 -- ---- where the sum stands
-stands-usable : (w : Which) (i n : ℕ) → Stands w i n → usable w i ≡ true
+picks-usable : (w : Which) (i n : ℕ) → Picks w i n → usable w i ≡ true
 unfolding usable
-stands-usable (child k) i n s = eq-eqb i 0 (s .0)
-stands-usable child-i i n s = refl
+picks-usable (child k) i n s = eq-eqb i 0 (s .0)
+picks-usable child-i i n s = refl
 
-stands-place : (w : Which) (i n : ℕ) → Stands w i n → place w i ≡ n
+picks-place : (w : Which) (i n : ℕ) → Picks w i n → place w i ≡ n
 unfolding place
-stands-place (child k) i n s = sym (s .1)
-stands-place child-i i n s = s
+picks-place (child k) i n s = sym (s .1)
+picks-place child-i i n s = s
 
 -- ---- chains
 or-second : (a b : Bool) → b ≡ true → (a || b) ≡ true
@@ -82,7 +82,7 @@ collects-found u v before between after a b x =
 pub complete : {Γ : Context} {r : Rule} {i j : ℕ} {p q : Tree} → Good r → Instance Γ r i j p q → rewrite Γ r i j p ≡ some q
 unfolding rewrite spreadAt removeAt absorbAt mergeAt swapAt
 complete {Γ} g (equals {k} {l} {r} θ h) = equals-found Γ k l r θ g h
-complete g (spreads {l} {s} {r} {w} {i} b f a h) = rw (stands-usable w i (count b) h, is-head l _, stands-place w i (count b) h, open-⧺, is-head s _)
+complete g (spreads {l} {s} {r} {w} {i} b f a h) = rw (picks-usable w i (count b) h, is-head l _, picks-place w i (count b) h, open-⧺, is-head s _)
 complete g (removes {l} {c} b f a h) = rw (is-head l _, open-⧺, is-head c _, lt-ltb 0 _ h)
 complete g (absorbs b a) = rw (is-head scalar-product _, open-⧺, is-head scalar-zero _)
 complete g (merges {l} b f a h) = rw (is-chain h _, open-⧺, is-head l _)
@@ -118,10 +118,10 @@ unfolding Formed
 child-formed m b t a h e = let x = Formed*-⧺ b (t ▹ a) (rw e at (h .1)) in x .1 .0
 
 -- spreading
-usable-stands : (w : Which) (i n : ℕ) → usable w i ≡ true → place w i ≡ n → Stands w i n
+usable-picks : (w : Which) (i n : ℕ) → usable w i ≡ true → place w i ≡ n → Picks w i n
 unfolding usable place
-usable-stands (child k) i n u e = (eqb-true i 0 u, sym e)
-usable-stands child-i i n u e = e
+usable-picks (child k) i n u e = (eqb-true i 0 u, sym e)
+usable-picks child-i i n u e = e
 
 spreads-sound : {Γ : Context} {l s r m : Label} {w : Which} {i j : ℕ} {f : Forest} {q : Tree} {o : Opened} → nameless s ≡ true → Formed (node m f)
     → j ≡ 0 → usable w i ≡ true → l ≡ m → At f (place w i) o → spreadAt l s r o ≡ some q → Instance Γ (spreading l w s r) i j (node m f) q
@@ -130,7 +130,7 @@ spreads-sound g h z u e too-far x = no-answer x
 spreads-sound {l} {s} {r} {w} {i} g h z u e (there b (node c f) a k n) x =
     let t = cond-some (isHead s c (count f)) (some (node r (spread l b f a))) x in
     let y = head-is s c f g (child-formed _ b (node c f) a h k) (t .0) in
-    instance-at refl z (rw (k, e, y)) (cc (t .1)) (spreads b f a (usable-stands w i (count b) u n))
+    instance-at refl z (rw (k, e, y)) (cc (t .1)) (spreads b f a (usable-picks w i (count b) u n))
 
 -- removing
 removes-sound : {Γ : Context} {l c m : Label} {i j : ℕ} {f : Forest} {q : Tree} {o : Opened} → nameless c ≡ true → Formed (node m f)

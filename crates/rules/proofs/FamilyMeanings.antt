@@ -1,9 +1,8 @@
 -- The rules that are no equations keep the meaning of a typed part.
 use mathlib.Core.Path.{_≡_, sym, _∙_, ap}
-use mathlib.Core.List.{List}
 use Prim.Native.Nat.{_<_}
 use Rattle.algebra.specs.Semirings.{StarSemiring}
-use Rattle.algebra.specs.Matrices.{Matrix, _≈_, number, scalar as scalar-matrix, scale as scale-matrix, add as add-matrix}
+use Rattle.algebra.specs.Matrices.{_≈_, number, scalar as scalar-matrix, scale as scale-matrix, add as add-matrix}
 use Rattle.algebra.proofs.Alike.{≈-refl, ≈-sym, ≈-trans, ≡→≈, add-≈}
 use Rattle.algebra.proofs.Shapes.{same-rows, same-columns}
 use Rattle.algebra.proofs.Linear.{scale-one, add-scale}
@@ -11,10 +10,10 @@ use Rattle.algebra.proofs.Scalars as Scalars
 use Rattle.algebra.proofs.Semirings.{one-mul, zero-mul}
 use Rattle.term.specs.Heads.{Label, scalar-zero, scalar-sum, scalar-product, scale, add}
 use Rattle.term.specs.Trees.{Tree, Forest, node, none, _▹_, _⧺_, count}
-use Rattle.typing.specs.Sorts.{Sort, Context}
-use Rattle.typing.specs.Rules.{_⊢_∶_, _⊢*_∶_, every-none, sca-0, sca-1, ket-0, bra-0, opt-0, WellFormed}
-use Rattle.meaning.specs.Choices.{Choice, Meaning}
-use Rattle.meaning.specs.Meaning.{times, meanings, names}
+use Rattle.types.specs.Sorts.{Sort, Context}
+use Rattle.types.specs.Rules.{_⊢_∶_, _⊢*_∶_, every-none, sca-0, sca-1, ket-0, bra-0, opt-0, WellFormed}
+use Rattle.meaning.specs.Choices.{Choice}
+use Rattle.meaning.specs.Meaning.{times, stands*}
 use Rattle.meaning.specs.Sorted.{Fits}
 use Rattle.meaning.proofs.Shapes.{shape}
 use Rattle.rules.specs.Table.{Summand, plain, scaled}
@@ -26,21 +25,18 @@ use Rattle.rules.proofs.Gathered.{gather, gather-swap, gather-merge, ga
 use Rattle.rules.proofs.Lines.{value}
 
 module _ {R : Type 0} (𝓡 : StarSemiring R) {Γ : Context} {χ : Choice R} (W : WellFormed Γ) (F : Fits 𝓡 Γ χ) where
-  abbrev val : Tree → Matrix R
-  val t = value Γ 𝓡 χ t
-
   -- a chain and what it becomes: the children come to the same
   module _ {l : Label} {S : Sort} (c : Chain l) where
     chain-means : (f g : Forest) → Γ ⊢ node l f ∶ S → Γ ⊢ node l g ∶ S
         → ((o : Of l S) → Γ ⊢* f ∶ S → let w = whole-of 𝓡 W F o in gather 𝓡 W F S (w .G) (w .shaped) f ≈ gather 𝓡 W F S (w .G) (w .shaped) g)
-        → val (node l f) ≈ val (node l g)
+        → value Γ 𝓡 χ (node l f) ≈ value Γ 𝓡 χ (node l g)
     chain-means f g d e same =
         let k = links c d in
         let m = links c e in
         let w = whole-of 𝓡 W F (k .of) in
         ≈-trans (w .whole f (k .some) (k .every)) (≈-trans (same (k .of) (k .every)) (≈-sym (w .whole g (m .some) (m .every))))
 
-    pub swap-means : (b : Forest) (t u : Tree) (a : Forest) → Γ ⊢ node l (b ⧺ t ▹ u ▹ a) ∶ S → val (node l (b ⧺ t ▹ u ▹ a)) ≈ val (node l (b ⧺ u ▹ t ▹ a))
+    pub swap-means : (b : Forest) (t u : Tree) (a : Forest) → Γ ⊢ node l (b ⧺ t ▹ u ▹ a) ∶ S → value Γ 𝓡 χ (node l (b ⧺ t ▹ u ▹ a)) ≈ value Γ 𝓡 χ (node l (b ⧺ u ▹ t ▹ a))
     unfolding _⧺_
     swap-means b t u a d =
         chain-means _ _ d (swap-keeps b t u a c d) λ o xs.
@@ -49,7 +45,7 @@ module _ {R : Type 0} (𝓡 : StarSemiring R) {Γ : Context} {χ : Choice R} (W 
         let q = around none u a (r .back) in
         gather-swap 𝓡 W F S (w .G) (w .shaped) (r .front) (r .here) (q .here) (q .back)
 
-    pub merge-means : (b f a : Forest) → Γ ⊢ node l (b ⧺ node l f ▹ a) ∶ S → val (node l (b ⧺ node l f ▹ a)) ≈ val (node l (b ⧺ f ⧺ a))
+    pub merge-means : (b f a : Forest) → Γ ⊢ node l (b ⧺ node l f ▹ a) ∶ S → value Γ 𝓡 χ (node l (b ⧺ node l f ▹ a)) ≈ value Γ 𝓡 χ (node l (b ⧺ f ⧺ a))
     merge-means b f a d =
         chain-means _ _ d (merge-keeps b f a c d) λ o xs.
         let w = whole-of 𝓡 W F o in
@@ -59,7 +55,7 @@ module _ {R : Type 0} (𝓡 : StarSemiring R) {Γ : Context} {χ : Choice R} (W 
 
     -- the child that goes comes to the unit
     pub remove-means : (b : Forest) (t : Tree) (a : Forest) → 0 < count (b ⧺ a) → Γ ⊢ node l (b ⧺ t ▹ a) ∶ S
-        → ((o : Of l S) → Γ ⊢ t ∶ S → val t ≈ whole-of 𝓡 W F o .G .unit) → val (node l (b ⧺ t ▹ a)) ≈ val (node l (b ⧺ a))
+        → ((o : Of l S) → Γ ⊢ t ∶ S → value Γ 𝓡 χ t ≈ whole-of 𝓡 W F o .G .unit) → value Γ 𝓡 χ (node l (b ⧺ t ▹ a)) ≈ value Γ 𝓡 χ (node l (b ⧺ a))
     unfolding gather _⧺_
     remove-means b t a h d unit =
         chain-means _ _ d (remove-keeps b t a c h d) λ o xs.
@@ -68,15 +64,15 @@ module _ {R : Type 0} (𝓡 : StarSemiring R) {Γ : Context} {χ : Choice R} (W 
         gather-merge 𝓡 W F S (w .G) (w .shaped) (r .front) (r .here) every-none (r .back) (unit o (r .here))
 
   -- ---- 51 to 54
-  -- a summand is its factor times its X
-  summand-value : (u : Summand) (p x : Tree) → val (summand u p x) ≈ scale-matrix 𝓡 (number (val (factor u p))) (val x)
+  -- a summand is shape 𝓡 W F factor times shape 𝓡 W F X
+  summand-value : (u : Summand) (p x : Tree) → value Γ 𝓡 χ (summand u p x) ≈ scale-matrix 𝓡 (number (value Γ 𝓡 χ (factor u p))) (value Γ 𝓡 χ x)
   unfolding value number scalar-matrix
   summand-value plain p x = ≈-sym (scale-one 𝓡 _)
   summand-value scaled p x = ≈-refl _
 
   -- and two with the same X are one with the sum of their factors
   collected-value : {S : Sort} (o : Of add S) (u v : Summand) (p q x : Tree) → Γ ⊢ summand u p x ∶ S → Γ ⊢ summand v q x ∶ S
-      → whole-of 𝓡 W F o .G .op (val (summand u p x)) (val (summand v q x)) ≈ val (node scale (node scalar-sum (factor u p ▹ factor v q ▹ none) ▹ x ▹ none))
+      → whole-of 𝓡 W F o .G .op (value Γ 𝓡 χ (summand u p x)) (value Γ 𝓡 χ (summand v q x)) ≈ value Γ 𝓡 χ (node scale (node scalar-sum (factor u p ▹ factor v q ▹ none) ▹ x ▹ none))
   unfolding value number add-matrix
   collected-value o u v p q x a b =
       let w = whole-of 𝓡 W F o in
@@ -84,11 +80,11 @@ module _ {R : Type 0} (𝓡 : StarSemiring R) {Γ : Context} {χ : Choice R} (W 
       let t = w .shaped _ b in
       rw (op-add 𝓡 W F arrays o)
       (≈-trans (add-≈ 𝓡 (same-rows s t) (same-columns s t) (summand-value u p x) (summand-value v q x))
-      (≈-sym (add-scale 𝓡 (number (val (factor u p))) (number (val (factor v q))) (val x))))
+      (≈-sym (add-scale 𝓡 (number (value Γ 𝓡 χ (factor u p))) (number (value Γ 𝓡 χ (factor v q))) (value Γ 𝓡 χ x))))
 
   pub collect-means : {S : Sort} (u v : Summand) (b m e : Forest) (p q x : Tree) (d : Γ ⊢ node add (b ⧺ summand u p x ▹ m ⧺ summand v q x ▹ e) ∶ S)
-      → val (node add (b ⧺ summand u p x ▹ m ⧺ summand v q x ▹ e))
-      ≈ val (node add (b ⧺ m ⧺ e ⧺ node scale (node scalar-sum (factor u p ▹ factor v q ▹ none) ▹ x ▹ none) ▹ none))
+      → value Γ 𝓡 χ (node add (b ⧺ summand u p x ▹ m ⧺ summand v q x ▹ e))
+      ≈ value Γ 𝓡 χ (node add (b ⧺ m ⧺ e ⧺ node scale (node scalar-sum (factor u p ▹ factor v q ▹ none) ▹ x ▹ none) ▹ none))
   unfolding _⧺_
   collect-means u v b m e p q x d =
       chain-means sum-chains _ _ d (collect-keeps u v b m e p q x d) λ o xs.
@@ -99,7 +95,7 @@ module _ {R : Type 0} (𝓡 : StarSemiring R) {Γ : Context} {χ : Choice R} (W 
       (collected-typed u v p q x o (r .here) (s .here)) (collected-value o u v p q x (r .here) (s .here))
 
   -- ---- 4, 6, 55 to 57: what goes comes to nothing
-  pub unit-value : {l c : Label} {S : Sort} {f : Forest} → Fitting l c → (o : Of l S) → Γ ⊢ node c f ∶ S → val (node c f) ≈ whole-of 𝓡 W F o .G .unit
+  pub unit-value : {l c : Label} {S : Sort} {f : Forest} → Fitting l c → (o : Of l S) → Γ ⊢ node c f ∶ S → value Γ 𝓡 χ (node c f) ≈ whole-of 𝓡 W F o .G .unit
   unfolding value whole-of sum-chain sums products
   unit-value scalar-zeros of-sum sca-0 = ≈-sym (Scalars.scalar-zero 𝓡)
   unit-value scalar-ones of-product sca-1 = ≈-refl _
@@ -108,14 +104,11 @@ module _ {R : Type 0} (𝓡 : StarSemiring R) {Γ : Context} {χ : Choice R} (W 
   unit-value operator-zeros of-operators (opt-0 a b) = ≡→≈ (cc (shape 𝓡 W F a, shape 𝓡 W F b))
 
   -- ---- 5 and 7: one factor among others
-  abbrev pub all : Forest → List (Meaning R)
-  all f = meanings 𝓡 (names 𝓡 Γ χ) f
-
-  pub times-around : (b : Forest) (t : Tree) (a : Forest) → times 𝓡 (all (b ⧺ t ▹ a)) ≡ 𝓡 .mul (times 𝓡 (all b)) (𝓡 .mul (number (val t)) (times 𝓡 (all a)))
+  pub times-around : (b : Forest) (t : Tree) (a : Forest) → times 𝓡 (stands* 𝓡 Γ χ (b ⧺ t ▹ a)) ≡ 𝓡 .mul (times 𝓡 (stands* 𝓡 Γ χ b)) (𝓡 .mul (number (value Γ 𝓡 χ t)) (times 𝓡 (stands* 𝓡 Γ χ a)))
   unfolding value _⧺_
   times-around none t a = sym (one-mul 𝓡 _)
-  times-around (s ▹ b) t a = ap (𝓡 .mul (number (val s))) (times-around b t a) ∙ sym (𝓡 .mul-assoc _ _ _)
+  times-around (s ▹ b) t a = ap (𝓡 .mul (number (value Γ 𝓡 χ s))) (times-around b t a) ∙ sym (𝓡 .mul-assoc _ _ _)
 
-  pub absorb-means : (b a : Forest) → val (node scalar-product (b ⧺ node scalar-zero none ▹ a)) ≈ val (node scalar-zero none)
+  pub absorb-means : (b a : Forest) → value Γ 𝓡 χ (node scalar-product (b ⧺ node scalar-zero none ▹ a)) ≈ value Γ 𝓡 χ (node scalar-zero none)
   unfolding value number scalar-matrix
-  absorb-means b a = ≡→≈ (ap (scalar-matrix 𝓡) (times-around b (node scalar-zero none) a ∙ cc (zero-mul 𝓡 (times 𝓡 (all a)), 𝓡 .mul-zero (times 𝓡 (all b)))))
+  absorb-means b a = ≡→≈ (ap (scalar-matrix 𝓡) (times-around b (node scalar-zero none) a ∙ cc (zero-mul 𝓡 (times 𝓡 (stands* 𝓡 Γ χ a)), 𝓡 .mul-zero (times 𝓡 (stands* 𝓡 Γ χ b)))))

@@ -6,9 +6,9 @@ use native.Mathlib.Omega.{arith}
 use Rattle.term.specs.Heads.{Label, scalar-zero, scalar-sum, scalar-product, scale, add}
 use Rattle.term.specs.Trees.{Tree, Forest, node, none, _▹_, _⧺_, count}
 use Rattle.term.proofs.Parsing.{count-⧺}
-use Rattle.typing.specs.Sorts.{Sort, scalar, Context}
-use Rattle.typing.specs.Rules.{_⊢_∶_, _⊢*_∶_, every-none, every-more, sca-0, sca-1, sca-add, ket-scr, bra-scr, opt-scr, WellFormed}
-use Rattle.typing.proofs.Sound.{Each, each-more, node-of}
+use Rattle.types.specs.Sorts.{Sort, scalar, Context}
+use Rattle.types.specs.Rules.{_⊢_∶_, _⊢*_∶_, every-none, every-more, sca-0, sca-1, sca-add, ket-scr, bra-scr, opt-scr, WellFormed}
+use Rattle.types.proofs.Sound.{Each, each-more, node-of}
 use Rattle.rules.specs.Table.{Summand, plain, scaled}
 use Rattle.rules.specs.Instances.{Chain, sums, scalar-products, spread, summand, factor}
 use Rattle.rules.proofs.Forests.{Of, of-product, of-kets, of-bras, of-operators, every-⧺, around, chained, links}

@@ -3,8 +3,8 @@ use Prim.Native.Nat.{_<_}
 use native.Mathlib.Omega.{arith}
 use Rattle.term.specs.Heads.{Label, scalar-zero, scalar-one, scalar-sum, scalar-product, zero-ket, zero-bra, zero-operator, add}
 use Rattle.term.specs.Trees.{Tree, Forest, node, none, _▹_, _⧺_, count}
-use Rattle.typing.specs.Sorts.{Sort, scalar, ket, bra, operator, Context}
-use Rattle.typing.specs.Rules.{_⊢_∶_, _⊢*_∶_, every-none, every-more, sca-add, sca-mul, ket-add, bra-add, opt-add}
+use Rattle.types.specs.Sorts.{Sort, scalar, ket, bra, operator, Context}
+use Rattle.types.specs.Rules.{_⊢_∶_, _⊢*_∶_, every-none, every-more, sca-add, sca-mul, ket-add, bra-add, opt-add}
 use Rattle.rules.specs.Instances.{Chain, scalar-sums, scalar-products, sums}
 
 -- the chains that are sums

@@ -6,7 +6,7 @@ use mathlib.Core.Option.{some}
 use Prim.Native.Nat.{ℕ, zero, suc, _+_, _*_, _≤_, _<_}
 use native.Mathlib.Nat.{le-refl}
 use native.Mathlib.Omega.{arith}
-use borrow.Author.Tests.{lt-ltb, le-leb, eq-eqb, leb-true}
+use borrow.Author.Tests.{lt-ltb, le-leb, leb-true}
 use lib.Arith.{digits-div, digits-mod}
 use lib.Dec.{eqb, leb, eqb·suc-zero}
 use lib.ListN.{length, getD, getElem?}
@@ -16,20 +16,10 @@ use Rattle.term.specs.Trees.{Tree, Forest, node, none, _▹_, count, words, wor
 use Rattle.term.specs.Terms.{maxWords, maxChildren, maxNames, known, declared, allDeclared, IsTerm}
 use Rattle.term.proofs.Readings.{read-at, read-few}
 use Rattle.term.proofs.Names.{declared-++}
-use Rattle.typing.specs.Sorts.{Sort, Context}
-use Rattle.typing.specs.Rules.{_⊢_∶_, _⊢*_∶_, type-var, basis-var, term-var, sca-0, sca-1, sca-delta, sca-add, sca-mul, sca-conj, sca-dot, base-prod, pair-base, ket-0, ket-base, ket-adj, ket-scr, ket-add, ket-mulk, ket-tsr, bra-0, bra-base, bra-adj, bra-scr, bra-add, bra-mulb, bra-tsr, opt-0, opt-1, opt-adj, opt-scr, opt-add, opt-outer, opt-mulo, opt-tsr, every-none, every-more, WellFormed}
-use Rattle.typing.specs.Declarations.{basisIn, variableIn, contextIn, namesIn, goodDeclarations}
-use Rattle.typing.proofs.Entries.{length-upTo, declarations}
+use Rattle.types.specs.Sorts.{Sort, Context, countsOf}
+use Rattle.types.specs.Rules.{_⊢_∶_, type-var, basis-var, term-var, sca-0, sca-1, sca-delta, sca-add, sca-mul, sca-conj, sca-dot, base-prod, pair-base, ket-0, ket-base, ket-adj, ket-scr, ket-add, ket-mulk, ket-tsr, bra-0, bra-base, bra-adj, bra-scr, bra-add, bra-mulb, bra-tsr, opt-0, opt-1, opt-adj, opt-scr, opt-add, opt-outer, opt-mulo, opt-tsr, WellFormed}
+use Rattle.types.proofs.Sound.{Each, each-none, each-more, node-of}
 use Rattle.rules.specs.Steps.{few, few*, within}
-
--- how many names of each kind a context declares
-abbrev pub countsOf : Context → Names
-countsOf Γ = record { types = Γ .types; bases = length (Γ .bases); variables = length (Γ .variables) }
-
--- good declarations name as many as the context that they make
-pub counts-in : (ds : List ℕ) → goodDeclarations ds ≡ true → namesIn ds ≡ countsOf (contextIn ds)
-unfolding namesIn contextIn
-counts-in ds e = rw (eq-eqb _ _ (declarations ds e .long), length-upTo (getD ds 1 0) (basisIn ds), length-upTo (getD ds 2 0) (variableIn ds))
 
 -- an item that a list has is below its length
 below : {A : Type 0} (xs : List A) (a : ℕ) {x : A} → getElem? xs a ≡ some x → a < length xs
@@ -87,57 +77,6 @@ module _ (N : Names) where
   unfolding word heads reading
   add-node n h = node-at add 20 (suc n) (suc n) (omega arith) refl (rw eqb·suc-zero) refl
 
--- ---- the children of a typed node are typed
-data Kids (Γ : Context) : Forest → Type 0 where
-  no-kid : Kids Γ none
-  kid : {t : Tree} {S : Sort} {f : Forest} → Γ ⊢ t ∶ S → Kids Γ f → Kids Γ (t ▹ f)
-
-kids : {Γ : Context} {f : Forest} {S : Sort} → Γ ⊢* f ∶ S → Kids Γ f
-kids every-none = no-kid
-kids (every-more a f) = kid a (kids f)
-
-abbrev one : {Γ : Context} {t : Tree} {S : Sort} → Γ ⊢ t ∶ S → Kids Γ (t ▹ none)
-one a = kid a no-kid
-
-abbrev two : {Γ : Context} {t u : Tree} {S T : Sort} → Γ ⊢ t ∶ S → Γ ⊢ u ∶ T → Kids Γ (t ▹ u ▹ none)
-two a b = kid a (kid b no-kid)
-
-typed-kids : {Γ : Context} {l : Label} {cs : Forest} {S : Sort} → Γ ⊢ node l cs ∶ S → Kids Γ cs
-typed-kids (type-var h) = no-kid
-typed-kids (basis-var e) = no-kid
-typed-kids (term-var e) = no-kid
-typed-kids sca-0 = no-kid
-typed-kids sca-1 = no-kid
-typed-kids (sca-delta a b) = two a b
-typed-kids (sca-add a f) = kid a (kids f)
-typed-kids (sca-mul a f) = kid a (kids f)
-typed-kids (sca-conj a) = one a
-typed-kids (sca-dot a b) = two a b
-typed-kids (base-prod a b h) = two a b
-typed-kids (pair-base a b h) = two a b
-typed-kids (ket-0 a) = one a
-typed-kids (ket-base a) = one a
-typed-kids (ket-adj a) = one a
-typed-kids (ket-scr a b) = two a b
-typed-kids (ket-add a f) = kid a (kids f)
-typed-kids (ket-mulk a b) = two a b
-typed-kids (ket-tsr a b h) = two a b
-typed-kids (bra-0 a) = one a
-typed-kids (bra-base a) = one a
-typed-kids (bra-adj a) = one a
-typed-kids (bra-scr a b) = two a b
-typed-kids (bra-add a f) = kid a (kids f)
-typed-kids (bra-mulb a b) = two a b
-typed-kids (bra-tsr a b h) = two a b
-typed-kids (opt-0 a b) = two a b
-typed-kids (opt-1 a) = one a
-typed-kids (opt-adj a) = one a
-typed-kids (opt-scr a b) = two a b
-typed-kids (opt-add a f) = kid a (kids f)
-typed-kids (opt-outer a b) = two a b
-typed-kids (opt-mulo a b) = two a b
-typed-kids (opt-tsr a b h k) = two a b
-
 -- a tree with few children at each node: at this one, and at those below
 few-node : (l : Label) (cs : Forest) → few (node l cs) ≡ true → (count cs ≤ 255) × (few* cs ≡ true)
 unfolding few
@@ -194,21 +133,21 @@ module _ {Γ : Context} (W : WellFormed Γ) (N : Names) (p : Γ .types ≤ N .ty
     unfolding Formed
 
     tree-formed : (t : Tree) {S : Sort} → Γ ⊢ t ∶ S → few t ≡ true → Formed t
-    tree-formed (node l cs) d h = let e = few-node l cs h in (typed-node d (e .0) .formed, forest-formed cs (typed-kids d) (e .1))
+    tree-formed (node l cs) d h = let e = few-node l cs h in (typed-node d (e .0) .formed, forest-formed cs (node-of W d .each) (e .1))
 
-    forest-formed : (f : Forest) → Kids Γ f → few* f ≡ true → Formed* f
-    forest-formed none d h = tt
-    forest-formed (t ▹ f) (kid a d) h = let e = few-more t f h in (tree-formed t a (e .0), forest-formed f d (e .1))
+    forest-formed : (f : Forest) {ss : List Sort} → Each Γ f ss → few* f ≡ true → Formed* f
+    forest-formed none each-none h = tt
+    forest-formed (t ▹ f) (each-more a d) h = let e = few-more t f h in (tree-formed t a (e .0), forest-formed f d (e .1))
 
   mutual
     unfolding words allDeclared
 
     tree-declared : (t : Tree) {S : Sort} → Γ ⊢ t ∶ S → few t ≡ true → allDeclared N (words t) ≡ true
-    tree-declared (node l cs) d h = let e = few-node l cs h in rw (typed-node d (e .0) .named) (forest-declared cs (typed-kids d) (e .1))
+    tree-declared (node l cs) d h = let e = few-node l cs h in rw (typed-node d (e .0) .named) (forest-declared cs (node-of W d .each) (e .1))
 
-    forest-declared : (f : Forest) → Kids Γ f → few* f ≡ true → allDeclared N (words* f) ≡ true
-    forest-declared none d h = refl
-    forest-declared (t ▹ f) (kid a d) h =
+    forest-declared : (f : Forest) {ss : List Sort} → Each Γ f ss → few* f ≡ true → allDeclared N (words* f) ≡ true
+    forest-declared none each-none h = refl
+    forest-declared (t ▹ f) (each-more a d) h =
         let e = few-more t f h in rw (declared-++ N (words t) (words* f), tree-declared t a (e .0)) (forest-declared f d (e .1))
 
   -- every name in a typed tree is declared

@@ -9,8 +9,8 @@ use Rattle.algebra.proofs.Alike.{≈-refl, ≈-sym, ≈-trans, ≡→≈, numbe
 use Rattle.term.specs.Heads.{Label, scalar-sum, add}
 use Rattle.term.specs.Trees.{Tree, Forest, node, none, _▹_, _⧺_, count}
 use Rattle.term.proofs.Parsing.{⧺-none, ⧺-assoc}
-use Rattle.typing.specs.Sorts.{Sort, scalar, ket, bra, operator, Context}
-use Rattle.typing.specs.Rules.{_⊢_∶_, _⊢*_∶_, every-none, every-more, WellFormed}
+use Rattle.types.specs.Sorts.{Sort, scalar, ket, bra, operator, Context}
+use Rattle.types.specs.Rules.{_⊢_∶_, _⊢*_∶_, every-none, every-more, WellFormed}
 use Rattle.meaning.specs.Choices.{Choice, Meaning}
 use Rattle.meaning.specs.Meaning.{plus, times, meanings, names}
 use Rattle.meaning.specs.Sorted.{Fits}

@@ -12,7 +12,7 @@ pub mod Spreading
 mod Every
 pub mod AllTypes
 pub mod AllMeanings
-mod Known
+pub mod Known
 pub mod Good
 mod Opening
 mod Matching

@@ -7,9 +7,9 @@ use native.Mathlib.Omega.{arith}
 use Rattle.algebra.specs.Semirings.{StarSemiring}
 use Rattle.algebra.specs.Matrices.{Matrix, _≈_}
 use Rattle.term.specs.Trees.{Tree}
-use Rattle.typing.specs.Sorts.{Sort, Context}
-use Rattle.typing.specs.Rules.{_⊢_∶_}
-use Rattle.typing.proofs.Complete.{complete}
+use Rattle.types.specs.Sorts.{Sort, Context}
+use Rattle.types.specs.Rules.{_⊢_∶_}
+use Rattle.types.proofs.Complete.{complete}
 use Rattle.meaning.specs.Choices.{Choice, a-term, an-index, a-basis}
 use Rattle.meaning.specs.Meaning.{first, second, plus, total, times, product, meaningOf, meaning, stands, mean}
 use Rattle.rules.specs.Patterns.{Pattern, sortOf, fill}

@@ -8,14 +8,13 @@ use native.Mathlib.Decide.{decLt}
 use native.Mathlib.Omega.{arith}
 use borrow.Author.Tests.{eq-eqb, ne-eqb, leb-true, ltb-true}
 use lib.ListN.{length, length-append}
+use Rattle.words.specs.Words.{sameWords}
+use Rattle.words.proofs.Runs.{same-words, same-words-eq}
 use Rattle.term.specs.Heads.{Label, word, heads, reading}
 use Rattle.term.specs.Trees.{Tree, node, none, _▹_, count, words, Formed}
 use Rattle.term.proofs.Readings.{read-at}
 use Rattle.term.proofs.Parsing.{prefix-free}
-use Rattle.typing.specs.Sorts.{Context}
-use Rattle.typing.specs.TypeOf.{sameWords}
-use Rattle.typing.proofs.Complete.{same-words}
-use Rattle.typing.proofs.Sound.{same-words-eq}
+use Rattle.types.specs.Sorts.{Context}
 use Rattle.rules.specs.Patterns.{Pattern, #_, first, second, _⟨⟩, _⟨_⟩, _⟨_∣_⟩, fill}
 use Rattle.rules.specs.Rewrite.{isHead, andThen, hold, match, holes}
 use Rattle.rules.proofs.Known.{nameless, is-head, head-is}

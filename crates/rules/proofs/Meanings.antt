@@ -13,9 +13,9 @@ use Rattle.algebra.proofs.Scalars as Scalars
 use Rattle.algebra.proofs.Kronecker as Kronecker
 use Rattle.algebra.proofs.Combined.{zeros-mul, mul-zeros, zeros-kronecker, kronecker-zeros, number-scalar, scalar-≈, scalar-is, scale-0, adjoint-number, number-both, scale-both, kronecker-both, mixed-column, mixed-row, regroup, unit-inner, both-deltas}
 use Rattle.term.specs.Trees.{Tree}
-use Rattle.typing.specs.Sorts.{Sort, basis, ket, bra, operator, Context}
-use Rattle.typing.specs.Rules.{_⊢_∶_, sca-0, sca-delta, sca-mul, sca-conj, sca-dot, pair-base, ket-0, ket-base, ket-adj, ket-scr, ket-mulk, ket-tsr, bra-0, bra-base, bra-adj, bra-scr, bra-mulb, bra-tsr, opt-0, opt-1, opt-adj, opt-scr, opt-outer, opt-mulo, opt-tsr, WellFormed}
-use Rattle.typing.proofs.Proper.{proper}
+use Rattle.types.specs.Sorts.{Sort, basis, ket, bra, operator, Context}
+use Rattle.types.specs.Rules.{_⊢_∶_, sca-0, sca-delta, sca-mul, sca-conj, sca-dot, pair-base, ket-0, ket-base, ket-adj, ket-scr, ket-mulk, ket-tsr, bra-0, bra-base, bra-adj, bra-scr, bra-mulb, bra-tsr, opt-0, opt-1, opt-adj, opt-scr, opt-outer, opt-mulo, opt-tsr, WellFormed}
+use Rattle.types.proofs.Proper.{proper}
 use Rattle.meaning.specs.Choices.{Choice}
 use Rattle.meaning.specs.Meaning.{stands}
 use Rattle.meaning.specs.Sorted.{Fits, Proper}

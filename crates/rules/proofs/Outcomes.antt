@@ -8,7 +8,7 @@ use native.Mathlib.Omega.{arith}
 use lib.ListN.{length}
 use Rattle.term.specs.Trees.{Tree, words, Formed, Subtree, outside, found, subtree, replace}
 use Rattle.term.proofs.Places.{place, subtree-formed}
-use Rattle.typing.specs.Sorts.{Context}
+use Rattle.types.specs.Sorts.{Context}
 use Rattle.rules.specs.Table.{Rule, ruleOf}
 use Rattle.rules.specs.Instances.{Instance}
 use Rattle.rules.specs.Rewrite.{rewrite}

@@ -5,8 +5,8 @@ use mathlib.Core.Option.{some}
 use Prim.Native.Nat.{ℕ}
 use Rattle.term.specs.Heads.{Label, type-name, basis-name, variable, index-product, pair, scalar-zero, scalar-one, scalar-sum, scalar-product, conjugate, delta, dot, zero-ket, zero-bra, zero-operator, identity, basis-ket, basis-bra, adjoint, scale, add, tensor, mulk, mulb, outer, mulo}
 use Rattle.term.specs.Trees.{Tree, Forest, node}
-use Rattle.typing.specs.Sorts.{Sort, index, basis, scalar, ket, bra, operator, Context}
-use Rattle.typing.specs.Rules.{_⊢_∶_, type-var, basis-var, term-var, base-prod, pair-base, IsType, WellFormed}
+use Rattle.types.specs.Sorts.{Sort, index, basis, scalar, ket, bra, operator, Context}
+use Rattle.types.specs.Rules.{_⊢_∶_, type-var, basis-var, term-var, base-prod, pair-base, IsType, WellFormed}
 use Rattle.rules.specs.Patterns.{Pattern, #_, first, second, _⟨⟩, _⟨_⟩, _⟨_∣_⟩, fill}
 use Rattle.rules.specs.Table.{Rule, _⇒_▷_, spreading, removing, absorbing, merging, collecting, swapping, ruleOf}
 use Rattle.rules.specs.Instances.{Chain, scalar-sums, scalar-products, sums, Instance, equals, spreads, removes, absorbs, merges, collects, swaps}

@@ -1,6 +1,10 @@
 -- The witnesses of what `specs/Statements` says of the rules.
 use Rattle.algebra.specs.Semirings.{StarSemiring}
-use Rattle.typing.proofs.Proper.{index-is, index-short}
+use Rattle.term.specs.Trees.{Tree}
+use Rattle.types.specs.Sorts.{Sort, Context, _⊠_, Short}
+use Rattle.types.specs.Rules.{_⊢_∶_, base-prod, WellFormed}
+use Rattle.types.proofs.Proper.{index-is}
+use Rattle.types.proofs.Replace.{part-typed}
 use Rattle.rules.specs.Statements.{Decides, AtMostOne, KeepsType, KeepsMeaning}
 use Rattle.rules.proofs.AllTypes.{rule-keeps}
 use Rattle.rules.proofs.AllMeanings.{rule-means}
@@ -14,9 +18,14 @@ decides Γ n r e i j p q f = let g = every-good n r e in (sound r p g f, complet
 pub at-most-one : AtMostOne
 at-most-one Γ n r e i j p q q′ x y = unique {r = r} (every-good n r e) x y
 
+-- a product of indices that has a sort is short: its factors are the indices of that sort
+product-short : {Γ : Context} → WellFormed Γ → {σ τ : Tree} {S : Sort} → Γ ⊢ σ ⊠ τ ∶ S → Short (σ ⊠ τ)
+product-short W (base-prod a b h) = rw (index-is W a, index-is W b) h
+
 pub keeps-type : KeepsType
 keeps-type Γ W n r e i j p q x S d =
-    (rule-keeps W n r e i j p q S x d, λ at s σ f h. rw (index-is W h) (index-short W h))
+    let k = rule-keeps W n r e i j p q S x d in
+    (k, λ at σ τ f. product-short W (part-typed W q at (σ ⊠ τ) S k f .1))
 
 pub keeps-meaning : {R : Type 0} (𝓡 : StarSemiring R) → KeepsMeaning 𝓡
 unfolding value

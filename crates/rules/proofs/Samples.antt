@@ -5,11 +5,10 @@ use mathlib.Core.List.{List, [], _∷_, _++_}
 use Prim.Native.Nat.{ℕ, zero, suc, _+_, _*_}
 use lib.Dec.{eqb}
 use Rattle.term.specs.Heads.{type-name, read, word}
-use Rattle.term.specs.Parts.{parse}
+use Rattle.term.specs.Parts.{parse, treeIn}
 use Rattle.term.specs.Trees.{Tree, node, none, _⧺_, count, words, subtree, replace}
-use Rattle.typing.specs.Declarations.{treeIn}
-use Rattle.typing.specs.Sorts.{scalar, ket, bra, operator, Context}
-use Rattle.typing.specs.TypeOf.{conclude, Typed, typed, untyped, typeOf}
+use Rattle.types.specs.Sorts.{scalar, ket, bra, operator, Context}
+use Rattle.types.specs.TypeOf.{conclude, Typed, typed, untyped, typeOf}
 use Rattle.rules.specs.Table.{Line, _∶_, table, ruleOf}
 use Rattle.rules.specs.Rewrite.{isHead, andThen, hold, match, filled, behind, open-at, removeAt, multipleOf, collected, collectBefore, collectAt, rewrite}
 use Rattle.rules.specs.Steps.{Step, Stepped, stepOf}

@@ -8,9 +8,9 @@ use Rattle.algebra.proofs.Gaussian.{gaussian}
 use Rattle.term.specs.declared.parts.Side.{Side}
 use Rattle.term.specs.declared.parts.Side.the-variants.{Left, Right}
 use Rattle.term.specs.Trees.{Tree}
-use Rattle.typing.specs.Sorts.{Sort, Context}
-use Rattle.typing.specs.Rules.{_⊢_∶_, WellFormed}
-use Rattle.typing.proofs.Replace.{part-typed, replace-typed}
+use Rattle.types.specs.Sorts.{Sort, Context}
+use Rattle.types.specs.Rules.{_⊢_∶_, WellFormed}
+use Rattle.types.proofs.Replace.{part-typed, replace-typed}
 use Rattle.meaning.specs.Choices.{Choice}
 use Rattle.meaning.specs.Meaning.{stands, mean}
 use Rattle.meaning.specs.Sorted.{Fits, Same}

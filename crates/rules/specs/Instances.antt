@@ -4,7 +4,7 @@ use mathlib.Core.Bool.{true}
 use Prim.Native.Nat.{ℕ, _+_, _<_}
 use Rattle.term.specs.Heads.{Label, scalar-zero, scalar-one, scalar-sum, scalar-product, scale, add}
 use Rattle.term.specs.Trees.{Tree, Forest, node, none, _▹_, _⧺_, count}
-use Rattle.typing.specs.Sorts.{Context}
+use Rattle.types.specs.Sorts.{Context}
 use Rattle.rules.specs.Patterns.{Pattern, sortOf, fill}
 use Rattle.rules.specs.Table.{Kind, wanted, Which, child, child-i, Summand, plain, scaled, Rule, _⇒_▷_, spreading, removing, absorbing, merging, collecting, swapping}
 
@@ -15,9 +15,9 @@ pub data Chain : Label → Type 0 where
   sums : Chain add
 
 -- "Unused indices are 0": the sum stands at a fixed child, or at child i
-abbrev pub Stands : Which → ℕ → ℕ → Type 0
-Stands (child k) i n = (i ≡ 0) × (n ≡ k)
-Stands child-i i n = i ≡ n
+abbrev pub Picks : Which → ℕ → ℕ → Type 0
+Picks (child k) i n = (i ≡ 0) × (n ≡ k)
+Picks child-i i n = i ≡ n
 
 -- "Sums from distributing have as many children as the sum they came from": the head l over each tree of f, between the other children
 unfoldable pub spread : Label → Forest → Forest → Forest → Forest
@@ -37,7 +37,7 @@ pub data Instance (Γ : Context) : Rule → ℕ → ℕ → Tree → Tree → Ty
   -- the left side with parts in its holes becomes the right side with the same
   equals : {k : Kind} {l r : Pattern} (θ : ℕ → Tree) → wanted k (sortOf Γ (θ 0)) ≡ true → Instance Γ (k ⇒ l ▷ r) 0 0 (fill Γ θ l) (fill Γ θ r)
   -- "7 spreads child i, a sum"; the others a fixed child
-  spreads : {l s r : Label} {w : Which} {i : ℕ} (before f after : Forest) → Stands w i (count before)
+  spreads : {l s r : Label} {w : Which} {i : ℕ} (before f after : Forest) → Picks w i (count before)
       → Instance Γ (spreading l w s r) i 0 (node l (before ⧺ node s f ▹ after)) (node r (spread l before f after))
   -- "4, 6, 55–57 remove child i, the fitting zero or one, only from two or more children"
   removes : {l c : Label} (before f after : Forest) → 0 < count (before ⧺ after)

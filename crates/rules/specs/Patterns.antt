@@ -3,8 +3,8 @@ use mathlib.Core.Bool.{Bool, true, false}
 use Prim.Native.Nat.{ℕ}
 use Rattle.term.specs.Heads.{Label, scalar-zero}
 use Rattle.term.specs.Trees.{Tree, node, none, _▹_}
-use Rattle.typing.specs.Sorts.{Sort, index, basis, scalar, ket, bra, operator, Context}
-use Rattle.typing.specs.TypeOf.{Typed, typed, untyped, typeOf}
+use Rattle.types.specs.Sorts.{Sort, index, basis, scalar, ket, bra, operator, Context}
+use Rattle.types.specs.TypeOf.{Typed, typed, untyped, typeOf}
 
 -- A hole holds any part, and where it stands twice the same part twice. On the right side `first k` and `second k` are the indices of the type of what
 -- hole k holds, as in 002's "K : K(τ) ⇒"

@@ -5,10 +5,10 @@ use mathlib.Core.Option.{Option, some, none as refused}
 use Prim.Native.Nat.{ℕ, zero, suc}
 use lib.Dec.{eqb, ltb}
 use lib.ListN.{length, getD}
+use Rattle.words.specs.Words.{sameWords}
 use Rattle.term.specs.Heads.{Label, word, scalar-zero, scalar-sum, scalar-product, scale, add}
 use Rattle.term.specs.Trees.{Tree, Forest, node, none, _▹_, _⧺_, count, words}
-use Rattle.typing.specs.Sorts.{Context}
-use Rattle.typing.specs.TypeOf.{sameWords}
+use Rattle.types.specs.Sorts.{Context}
 use Rattle.rules.specs.Patterns.{Pattern, #_, first, second, _⟨⟩, _⟨_⟩, _⟨_∣_⟩, no-index, sortOf, fill}
 use Rattle.rules.specs.Table.{Kind, wanted, Which, child, child-i, Summand, plain, scaled, Rule, _⇒_▷_, spreading, removing, absorbing, merging, collecting, swapping}
 use Rattle.rules.specs.Instances.{spread, factor}

@@ -12,8 +12,8 @@ use Rattle.algebra.specs.Gaussian.{Gaussian}
 use Rattle.algebra.proofs.Gaussian.{gaussian}
 use Rattle.term.specs.Trees.{Tree, words, Formed, found, subtree, replace}
 use Rattle.term.specs.Terms.{IsTerm}
-use Rattle.typing.specs.Sorts.{Sort, index, Context, Short}
-use Rattle.typing.specs.Rules.{_⊢_∶_, IsType, WellFormed}
+use Rattle.types.specs.Sorts.{Sort, Context, countsOf, _⊠_, Short}
+use Rattle.types.specs.Rules.{_⊢_∶_, IsType, WellFormed}
 use Rattle.meaning.specs.Choices.{Choice}
 use Rattle.meaning.specs.Meaning.{stands, mean}
 use Rattle.meaning.specs.Sorted.{Fits, Same}
@@ -37,7 +37,7 @@ AtMostOne = (Γ : Context) (n : ℕ) (r : Rule) → ruleOf n ≡ some r → (i j
 abbrev pub KeepsType : Type 0
 KeepsType =
     (Γ : Context) → WellFormed Γ → (n : ℕ) (r : Rule) → ruleOf n ≡ some r → (i j : ℕ) (p q : Tree) → Instance Γ r i j p q
-    → (S : Sort) → Γ ⊢ p ∶ S → (Γ ⊢ q ∶ S) × ((at : ℕ) (s σ : Tree) → subtree q at ≡ found s → Γ ⊢ s ∶ index σ → Short s)
+    → (S : Sort) → Γ ⊢ p ∶ S → (Γ ⊢ q ∶ S) × ((at : ℕ) (σ τ : Tree) → subtree q at ≡ found (σ ⊠ τ) → Short (σ ⊠ τ))
 
 module _ {R : Type 0} (𝓡 : StarSemiring R) where
   abbrev pub KeepsMeaning : Type 0
@@ -74,7 +74,7 @@ StepDecided = (Γ : Context) (t : Tree) (s : Step) → Formed t → Outcome Γ t
 -- a typed term of document 01's form
 pub record Typed (Γ : Context) (S : Sort) (t : Tree) : Type 0 where
   pub rules : Γ ⊢ t ∶ S
-  pub form : IsTerm (record { types = Γ .types; bases = length (Γ .bases); variables = length (Γ .variables) }) t
+  pub form : IsTerm (countsOf Γ) t
 
 -- each step, taken or refused, leaves a typed term of the same type
 abbrev pub StepKeepsType : Type 0

@@ -9,7 +9,7 @@ use Rattle.term.specs.declared.parts.Side.{Side}
 use Rattle.term.specs.declared.parts.Side.the-variants.{Left, Right}
 use Rattle.term.specs.Trees.{Tree, Forest, node, _▹_, none as no-tree, count, words, depth, Subtree, outside, found, subtree, replace}
 use Rattle.term.specs.Terms.{maxWords, maxDepth, maxChildren}
-use Rattle.typing.specs.Sorts.{Context}
+use Rattle.types.specs.Sorts.{Context}
 use Rattle.rules.specs.Table.{Rule, ruleOf}
 use Rattle.rules.specs.Rewrite.{rewrite}
 

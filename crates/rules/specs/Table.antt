@@ -5,7 +5,7 @@ use mathlib.Core.Option.{Option, some, none}
 use Prim.Native.Nat.{ℕ}
 use lib.Dec.{eqb}
 use Rattle.term.specs.Heads.{Label, index-product, pair, scalar-zero, scalar-one, scalar-sum, scalar-product, conjugate, delta, dot, zero-ket, zero-bra, zero-operator, identity, basis-ket, basis-bra, adjoint, scale, add, tensor, mulk, mulb, outer, mulo}
-use Rattle.typing.specs.Sorts.{Sort}
+use Rattle.types.specs.Sorts.{Sort}
 use Rattle.rules.specs.Patterns.{Pattern, isKet, isBra, isOperator, #_, first, second, _⟨⟩, _⟨_⟩, _⟨_∣_⟩}
 
 -- of what kind the part in hole 0 must be, where the left side does not tell: 002's "K : K(σ) ⇒" in SCRK0, SCRB0 and SCRO0

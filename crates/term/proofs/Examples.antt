@@ -8,7 +8,6 @@ use Rattle.term.specs.Heads.{word, read, unread, labelled, scalar-sum, m
 use Rattle.term.specs.Trees.{Tree, node, none, _▹_, words, depth, replace}
 use Rattle.term.specs.Parts.{part}
 use Rattle.term.specs.Terms.{partDepth, declared, termWords, isTerm}
-use Rattle.term.specs.Words.{cleared, agreeing}
 
 -- 01, "One session, whole": left=22 18 15 1:0 16 3:0
 abbrev left : List ℕ
@@ -45,7 +44,5 @@ the-edges :
     × (part (1536 ∷ 65535 ∷ []) 0 ≡ 1536 ∷ [])
     × (part [] 0 ≡ [])
     × (termWords names (257 ∷ []) ≡ false)
-    × (cleared (1 ∷ 2 ∷ 3 ∷ []) 1 ≡ 1 ∷ 0 ∷ 0 ∷ [])
-    × (agreeing (1 ∷ 2 ∷ 3 ∷ []) (1 ∷ 2 ∷ 4 ∷ []) ≡ 2)
-unfolding read part words word depth termWords declared cleared agreeing
-the-edges = (refl, refl, refl, refl, refl, refl, refl, refl, refl, refl)
+unfolding read part words word depth termWords declared
+the-edges = (refl, refl, refl, refl, refl, refl, refl, refl)

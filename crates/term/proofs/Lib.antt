@@ -6,6 +6,6 @@ pub mod Scan
 pub mod Extents
 pub mod Names
 pub mod TermTest
-pub mod Runs
+pub mod Comparing
 pub mod Places
 mod Examples

@@ -11,7 +11,7 @@ use Rattle.term.specs.declared.heads.Arity.the-variants.{Unknown, Childr
 use Rattle.term.specs.declared.heads.Class.{Class}
 use Rattle.term.specs.declared.heads.Class.the-variants.{Nothing, Index, Basis, Scalar, Ket, Bra, Operator, Array, Term}
 use Rattle.term.specs.Heads.{Head, unknown, named, fixed, counted, heads, reading, read, arityIn, arityOf, resultIn, resultOf, childIn, childOf}
-use Rattle.term.specs.Lines.{digit, lineOf, lineAt, classOf}
+use Rattle.term.specs.Code.Lines.{digit, lineOf, lineAt, classOf}
 use Rattle.term.proofs.Readings.{few, few-at}
 
 -- a line at a number past the table is the unknown head's, which is 0

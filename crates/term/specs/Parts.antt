@@ -6,7 +6,7 @@ use denote.Ref.{RefT, now}
 use lib.ListN.{drop}
 use Rattle.term.specs.declared.parts.Side.{Side}
 use Rattle.term.specs.declared.parts.Side.the-variants.{Left, Right}
-use Rattle.term.specs.Heads.{Label, Reading, unread, labelled, read}
+use Rattle.term.specs.Heads.{Label, scalar-zero, Reading, unread, labelled, read}
 use Rattle.term.specs.Trees.{Tree, Forest, node, none, _▹_, words, Formed}
 
 -- the first n trees of a row, and those behind them; `short` where there are fewer
@@ -47,6 +47,11 @@ Whole p = (t : Tree) × Formed t × (words t ≡ p)
 unfoldable pub first : Forest → List ℕ
 first none = []
 first (t ▹ f) = words t
+
+-- the same as a tree, where there is one
+unfoldable pub treeIn : Forest → Tree
+treeIn none = node scalar-zero none
+treeIn (t ▹ f) = t
 
 -- The part that begins at an offset. 01: "an empty part when the offset is not below the length or no whole part begins there; this is their only empty answer"
 unfoldable pub part : List ℕ → ℕ → List ℕ

@@ -1,7 +1,7 @@
 // The table of heads: how many children a word wants, and the sorts of a head's result and of its children.
 ghost use mathlib.Core.Path.{_≡_};
 ghost use Rattle.term.specs.Heads.{arityOf, resultOf, childOf};
-ghost use Rattle.term.specs.Lines.{lineAt, classOf};
+ghost use Rattle.term.specs.Code.Lines.{lineAt, classOf};
 
 // The sorts that the table tells apart. An `Array` is a ket, a bra or an operator; a `Term` is one of these or a scalar.
 pub enum Class {

@@ -1,4 +1,3 @@
 pub mod heads;
 pub mod parts;
 pub mod terms;
-pub mod words;

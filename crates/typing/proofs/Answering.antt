@@ -8,7 +8,7 @@ use borrow.Author.Tests.{eq-eqb, ne-eqb, leb-true}
 use lib.Dec.{leb}
 use lib.ListN.{length, take}
 use Rattle.term.specs.declared.terms.Names.{Names}
-use Rattle.term.specs.Parts.{parse, first, part}
+use Rattle.term.specs.Parts.{parse, first, part, treeIn}
 use Rattle.term.specs.Terms.{maxWords, maxDepth, firstDepth, partDepth, IsTerm, isTerm}
 use Rattle.term.specs.Trees.{Tree, none, _▹_, words, depth}
 use Rattle.term.proofs.Parsing.{parse-tree, some-words}
@@ -16,12 +16,13 @@ use Rattle.term.proofs.TermTest.{term-tree}
 use Rattle.typing.specs.declared.infer.Verdict as Answer
 use Rattle.typing.specs.declared.sorts.Sorted as S
 use Rattle.typing.specs.declared.terms.Kind.the-variants as Kinds
-use Rattle.typing.specs.Answers.{typeRecord, refuse, typing, answerOf, typingOf, accept, answerTo}
-use Rattle.typing.specs.Declarations.{treeIn, contextIn, namesIn, goodDeclarations}
-use Rattle.typing.specs.Records.{numberOf, indexOf, noIndex, sortedOf}
-use Rattle.typing.specs.Sorts.{Sort, index, basis, scalar, ket, bra, operator}
-use Rattle.typing.specs.TypeOf.{Typed, typed, typeOf}
-use Rattle.typing.specs.Verdicts.{verdictOf}
+use Rattle.typing.specs.Answers.{typeRecord, refuse, typing, answerOf, typingOf}
+use Rattle.typing.specs.Code.Accepting.{accept, answerTo}
+use Rattle.declarations.specs.Declarations.{contextIn, namesIn, goodDeclarations}
+use Rattle.typing.specs.Code.Records.{numberOf, indexOf, noIndex, sortedOf}
+use Rattle.types.specs.Sorts.{Sort, index, basis, scalar, ket, bra, operator}
+use Rattle.types.specs.TypeOf.{Typed, typed, typeOf}
+use Rattle.typing.specs.Code.Verdicts.{verdictOf}
 use Rattle.typing.proofs.Verdicts.{says-typed, says-untyped}
 
 -- the words that pass test 8 are those of a term

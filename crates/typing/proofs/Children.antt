@@ -9,10 +9,10 @@ use lib.ListN.{length, getD}
 use Rattle.term.specs.Heads.{Label, Head, unknown, named, fixed, counted, heads, unread, labelled, reading, read, childOf, index-product, pair, scalar-zero, scalar-one, conjugate, delta, dot, zero-ket, zero-bra, zero-operator, identity, basis-ket, basis-bra, adjoint, scale, tensor, mulk, mulb, outer, mulo}
 use Rattle.term.proofs.Readings.{Every, every-at, _⨾_}
 use Rattle.typing.specs.declared.conclude.Gathered as G
-use Rattle.typing.specs.Conclude.{outcomeOf, allAlike, likeOf, childrenOf}
-use Rattle.typing.specs.Records.{sortedOf}
-use Rattle.typing.specs.Sorts.{Sort, Context}
-use Rattle.typing.specs.TypeOf.{conclude}
+use Rattle.typing.specs.Code.Conclude.{outcomeOf, allAlike, likeOf, childrenOf}
+use Rattle.typing.specs.Code.Records.{sortedOf}
+use Rattle.types.specs.Sorts.{Sort, Context}
+use Rattle.types.specs.TypeOf.{conclude}
 use Rattle.typing.proofs.OnRecords.{Neat, AllNeat, records, two-product, two-pair, two-delta, two-dot, two-zero, two-scale, two-tensor, two-mulk, two-mulb, two-outer, two-mulo, one-conjugate, one-zero-ket, one-zero-bra, one-identity, one-ket, one-bra, on-adjoint, scalars-law, sum-law}
 
 -- what is gathered of a part's children: the first, the last, and whether all are like the first

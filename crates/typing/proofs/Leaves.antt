@@ -12,13 +12,13 @@ use Rattle.term.specs.declared.heads.Class.the-variants.{Index, Basis, Term}
 use Rattle.term.specs.Heads.{Label, type-name, basis-name, variable, Head, unknown, named, fixed, counted, heads, unread, labelled, reading, read, word}
 use Rattle.term.specs.Trees.{words, count}
 use Rattle.term.proofs.Readings.{Every, every-at, _⨾_}
-use Rattle.typing.specs.Conclude.{failure, outcomeOf}
-use Rattle.typing.specs.Declarations.{contextIn, upTo, basisIn, variableIn}
-use Rattle.typing.specs.Records.{sortedOf}
-use Rattle.typing.specs.Sorts.{Sort, basis}
-use Rattle.typing.specs.TypeOf.{fails, gives, listed, conclude}
-use Rattle.typing.specs.Verdicts.{leafOf}
-use Rattle.typing.proofs.Entries.{upTo-at, upTo-past}
+use Rattle.typing.specs.Code.Conclude.{failure, outcomeOf}
+use Rattle.declarations.specs.Declarations.{contextIn, upTo, basisIn, variableIn}
+use Rattle.typing.specs.Code.Records.{sortedOf}
+use Rattle.types.specs.Sorts.{Sort, basis}
+use Rattle.types.specs.TypeOf.{fails, gives, listed, conclude}
+use Rattle.typing.specs.Code.Verdicts.{leafOf}
+use Rattle.declarations.proofs.Entries.{upTo-at, upTo-past}
 
 -- a declared name's entry
 on-listed : {A : Type 0} (n : ℕ) (f : ℕ → A) (F : A → Sort) (a : ℕ)

@@ -9,6 +9,8 @@ use borrow.Author.Tests.{ne-eqb}
 use lib.Dec.{leb}
 use lib.ListN.{length, take, replicate, length-append}
 use lib.Seq.{take-append-add, take-append-seam}
+use Rattle.words.specs.Words.{sameWords}
+use Rattle.words.proofs.Runs.{same-words}
 use Rattle.term.specs.declared.heads.Class.{Class}
 use Rattle.term.specs.declared.heads.Class.the-variants.{Index, Basis, Scalar, Ket, Bra, Operator, Array}
 use Rattle.term.specs.Heads.{Label, type-name, basis-name, variable, index-product, pair, scalar-zero, scalar-one, scalar-sum, scalar-product, conjugate, delta, dot, zero-ket, zero-bra, zero-operator, identity, basis-ket, basis-bra, adjoint, scale, add, tensor, mulk, mulb, outer, mulo, word, resultOf, childOf}
@@ -18,12 +20,12 @@ use Rattle.typing.specs.declared.conclude.Outcome as O
 use Rattle.typing.specs.declared.sorts.Index as I
 use Rattle.typing.specs.declared.sorts.Product as P
 use Rattle.typing.specs.declared.sorts.Sorted as S
-use Rattle.typing.specs.Conclude.{failure, success, outcomeOf, pairOf, kroneckerOf, oneOf, twoOf, alikeTo, allAlike, likeOf}
-use Rattle.typing.specs.Rules.{IsType}
-use Rattle.typing.specs.Records.{fitting, pad, indexOf, noIndex, sortedOf, productWords, productOf}
-use Rattle.typing.specs.Sorts.{Sort, index, basis, scalar, ket, bra, operator, Context, _⊠_, Short}
-use Rattle.typing.specs.TypeOf.{Conclusion, fails, gives, sameWords, same, short, toIndex, toBasis, toScalar, toKet, toBra, toOperator, adjointOf, arrayOf, tensorOf, agree, andThen, agreeAll, scalarsOf, sumOf, conclude}
-use Rattle.typing.proofs.Complete.{same-words}
+use Rattle.typing.specs.Code.Conclude.{failure, success, outcomeOf, pairOf, kroneckerOf, oneOf, twoOf, alikeTo, allAlike, likeOf}
+use Rattle.types.specs.Rules.{IsType}
+use Rattle.typing.specs.Answers.{pad}
+use Rattle.typing.specs.Code.Records.{fitting, indexOf, noIndex, sortedOf, productWords, productOf}
+use Rattle.types.specs.Sorts.{Sort, index, basis, scalar, ket, bra, operator, Context, _⊠_, Short}
+use Rattle.types.specs.TypeOf.{Conclusion, fails, gives, same, short, toIndex, toBasis, toScalar, toKet, toBra, toOperator, adjointOf, arrayOf, tensorOf, agree, andThen, agreeAll, scalarsOf, sumOf, conclude}
 
 -- ---- words are not zero, so the zeros behind an index do not make two indices the same
 abbrev NonZero : List ℕ → Type 0

@@ -9,21 +9,7 @@ use native.Mathlib.Omega.{arith}
 use lib.Dec.{eqb, eqb·suc-suc, eqb·zero-suc}
 use lib.ListN.{length, take, getD, set, replicate, length-append, length-replicate, getD-replicate, List·getD-append}
 use lib.Seq.{getD-take, getD-append-add, length-take-le, take-all, take-suc, take-suc-set}
-use Rattle.term.specs.Words.{agreeing}
-use Rattle.typing.specs.TypeOf.{sameWords}
-use Rattle.typing.specs.Records.{productWords}
-
--- two runs of one length are the same where all their words agree
-pub same-agreeing : (xs ys : List ℕ) → length xs ≡ length ys → sameWords xs ys ≡ eqb (agreeing xs ys) (length xs)
-unfolding sameWords agreeing
-same-agreeing [] [] e = refl
-same-agreeing [] (y ∷ ys) e = absurd (omega arith)
-same-agreeing (x ∷ xs) [] e = absurd (omega arith)
-same-agreeing (x ∷ xs) (y ∷ ys) e = rw (same-agreeing xs ys (omega arith)) (go (eqb x y))
-  where
-    go : (b : Bool) → (b && eqb (agreeing xs ys) (length xs)) ≡ eqb (cond b (suc (agreeing xs ys)) 0) (suc (length xs))
-    go true = sym (eqb·suc-suc (agreeing xs ys) (length xs))
-    go false = sym (eqb·zero-suc (length xs))
+use Rattle.typing.specs.Code.Records.{productWords}
 
 -- ---- the words of a product, one by one
 product-at : (a b : List ℕ) (n m k : ℕ) → suc k < 63 → getD (productWords a n b m) (suc k) 0 ≡ getD (take n a ++ (take m b ++ replicate 63 0)) k 0

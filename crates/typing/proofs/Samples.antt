@@ -3,11 +3,10 @@ use mathlib.Core.Path.{_≡_, refl}
 use mathlib.Core.List.{List, [], _∷_}
 use Prim.Native.Nat.{ℕ}
 use Rattle.term.specs.Heads.{type-name, read, word}
-use Rattle.term.specs.Parts.{parse}
+use Rattle.term.specs.Parts.{parse, treeIn}
 use Rattle.term.specs.Trees.{Tree, node, none, words}
-use Rattle.typing.specs.Declarations.{treeIn}
-use Rattle.typing.specs.Sorts.{scalar, ket, bra, operator, Context, _⊠_}
-use Rattle.typing.specs.TypeOf.{conclude, Typed, typed, untyped, typeOf}
+use Rattle.types.specs.Sorts.{scalar, ket, bra, operator, Context, _⊠_}
+use Rattle.types.specs.TypeOf.{conclude, Typed, typed, untyped, typeOf}
 
 -- "Declared: basis 0 and 1 of index 1:0; variables 0 ket, 1 operator, 2 scalar, 3 bra, all over 1:0"
 abbrev σ : Tree

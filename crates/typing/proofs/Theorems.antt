@@ -7,23 +7,24 @@ use native.Mathlib.Omega.{arith}
 use borrow.Author.Tests.{eqb-true, eqb-false}
 use lib.Dec.{eqb}
 use lib.ListN.{length, take}
-use Rattle.term.specs.Parts.{parse}
+use Rattle.term.specs.Parts.{parse, treeIn}
 use Rattle.term.specs.Terms.{maxWords, partDepth, firstDepth, IsTerm, isTerm}
 use Rattle.term.specs.Trees.{Tree, none, _▹_, words, depth}
 use Rattle.term.proofs.Parsing.{parse-tree}
 use Rattle.term.proofs.TermTest.{term-in, tree-term}
 use Rattle.typing.specs.declared.terms.Typing as A
 use Rattle.typing.specs.Answers.{refuse, answerOf, typingOf, TypedTerm}
-use Rattle.typing.specs.Declarations.{treeIn, contextIn, namesIn, goodDeclarations}
-use Rattle.typing.specs.First.{HasSort, FirstUntyped}
-use Rattle.typing.specs.Rules.{IsType}
-use Rattle.typing.specs.Sorts.{Sort, index, basis, scalar, ket, bra, operator}
-use Rattle.typing.specs.TypeOf.{Typed, typed, untyped, typeOf}
+use Rattle.declarations.specs.Declarations.{contextIn, namesIn, goodDeclarations}
+use Rattle.types.specs.First.{HasSort, FirstUntyped}
+use Rattle.types.specs.Rules.{IsType}
+use Rattle.types.specs.Sorts.{Sort, index, basis, scalar, ket, bra, operator}
+use Rattle.types.specs.TypeOf.{Typed, typed, untyped, typeOf}
+use Rattle.typing.specs.Statements.{Sound, Complete, Places}
 use Rattle.typing.proofs.Answering.{here, wrong-size, bad-declarations, no-term, the-term}
-use Rattle.typing.proofs.Complete.{complete}
-use Rattle.typing.proofs.Entries.{well-formed}
-use Rattle.typing.proofs.Place.{first-untyped, no-sort}
-use Rattle.typing.proofs.Sound.{sound}
+use Rattle.types.proofs.Complete.{complete}
+use Rattle.declarations.proofs.Entries.{well-formed}
+use Rattle.types.proofs.Place.{first-untyped, no-sort}
+use Rattle.types.proofs.Sound.{sound}
 
 -- the answer on the words of a term that passes tests 1, 7 and 8
 answer-on : (ds ws : List ℕ) (n : ℕ) (t : Tree) → length ws ≡ maxWords → goodDeclarations ds ≡ true → n ≤ length ws → words t ≡ take n ws → IsTerm (namesIn ds) t
@@ -45,14 +46,13 @@ accepted-sort n d (typed (ket σ)) e = (ket σ, refl, tt)
 accepted-sort n d (typed (bra σ)) e = (bra σ, refl, tt)
 accepted-sort n d (typed (operator σ τ)) e = (operator σ τ, refl, tt)
 
-module _ (ds ws : List ℕ) (n : ℕ) where
-  -- ---- complete: a typed term is accepted, with its length, its depth and its type
-  pub complete-entry : (t : Tree) (S : Sort) → TypedTerm ds ws n t S → typingOf ds ws n ≡ answerOf n (depth t) (typed S)
-  complete-entry t S h =
-      answer-on ds ws n t (h .size) (h .good) (h .inside) (h .is) (h .term)
-      ∙ ap (answerOf n (depth t)) (complete (contextIn ds) (h .rules) 0)
+-- ---- complete: a typed term is accepted, with its length, its depth and its type
+pub complete-entry : Complete
+complete-entry ds ws n t S h =
+    answer-on ds ws n t (h .size) (h .good) (h .inside) (h .is) (h .term)
+    ∙ ap (answerOf n (depth t)) (complete (contextIn ds) (h .rules) 0)
 
-  -- ---- sound: what is accepted is a term, and of that type by the rules
+module _ (ds ws : List ℕ) (n : ℕ) where
   not-refused : (c at : ℕ) → typingOf ds ws n ≡ refuse c at → typingOf ds ws n .code ≡ 0 → c ≡ 0
   unfolding refuse
   not-refused c at e h = sym (ap (λ (r : A.Typing). r .code) e) ∙ h
@@ -79,14 +79,14 @@ module _ (ds ws : List ℕ) (n : ℕ) where
         },
       )
 
-  pub sound-entry : typingOf ds ws n .code ≡ 0 → (t : Tree) × (S : Sort) × TypedTerm ds ws n t S
-  sound-entry e = sound-by _ _ _ refl refl refl e
+-- ---- sound: what is accepted is a term, and of that type by the rules
+pub sound-entry : Sound
+sound-entry ds ws n e = sound-by ds ws n _ _ _ refl refl refl e
 
-  -- ---- a term without a sort is refused with code 10 at the place that document 01 fixes
-  pub place-entry : (t : Tree) → length ws ≡ maxWords → goodDeclarations ds ≡ true → n ≤ length ws → words t ≡ take n ws → IsTerm (namesIn ds) t
-      → (HasSort (contextIn ds) t → ⊥) → (k : ℕ) × FirstUntyped (contextIn ds) t k × (typingOf ds ws n ≡ refuse 10 k)
-  unfolding answerOf
-  place-entry t size good inside is term h =
-      let W = well-formed ds good in
-      let u = no-sort W t h in
-      (u .0, first-untyped W t (u .0) (u .1), answer-on ds ws n t size good inside is term ∙ ap (answerOf n (depth t)) (u .1))
+-- ---- a term without a sort is refused with code 10 at the place that document 01 fixes
+pub place-entry : Places
+unfolding answerOf
+place-entry ds ws n t size good inside is term h =
+    let W = well-formed ds good in
+    let u = no-sort W t h in
+    (u .0, first-untyped W t (u .0) (u .1), answer-on ds ws n t size good inside is term ∙ ap (answerOf n (depth t)) (u .1))

@@ -11,23 +11,23 @@ use lib.Seq.{take-all}
 use Rattle.term.specs.Heads.{Label, labelled, read, arityOf}
 use Rattle.term.specs.declared.heads.Arity.the-variants.{Unknown, Children}
 use Rattle.term.specs.Trees.{Tree, Forest, node, none, _▹_, count, _⧺_, words, words*, depth, depth*}
-use Rattle.term.specs.Parts.{parse, first, part}
+use Rattle.term.specs.Parts.{parse, first, part, treeIn}
 use Rattle.term.specs.Terms.{firstDepth, partDepth}
 use Rattle.term.proofs.Parsing.{some-words}
 use Rattle.term.proofs.Scan.{read-children, read-unknown, part-length}
 use Rattle.typing.specs.declared.conclude.Gathered as G
 use Rattle.typing.specs.declared.infer.Verdict as Answer
-use Rattle.typing.specs.Conclude.{outcomeOf, childrenOf}
-use Rattle.typing.specs.Declarations.{treeIn, contextIn}
-use Rattle.typing.specs.Records.{sortedOf}
-use Rattle.typing.specs.Rules.{WellFormed}
-use Rattle.typing.specs.Sorts.{Sort, Context}
-use Rattle.typing.specs.TypeOf.{Conclusion, fails, gives, conclude, Typed, typed, untyped, decide, typeOf}
-use Rattle.typing.specs.Verdicts.{refusal, verdictOf, settleOf, leafOf}
+use Rattle.typing.specs.Code.Conclude.{outcomeOf, childrenOf}
+use Rattle.declarations.specs.Declarations.{contextIn}
+use Rattle.typing.specs.Code.Records.{sortedOf}
+use Rattle.types.specs.Rules.{WellFormed}
+use Rattle.types.specs.Sorts.{Sort, Context}
+use Rattle.types.specs.TypeOf.{Conclusion, fails, gives, conclude, Typed, typed, untyped, decide, typeOf}
+use Rattle.typing.specs.Code.Verdicts.{refusal, verdictOf, settleOf, leafOf}
 use Rattle.typing.proofs.Children.{children-law}
 use Rattle.typing.proofs.Leaves.{leaf-law}
 use Rattle.typing.proofs.OnRecords.{AllNeat}
-use Rattle.typing.proofs.Place.{first-untyped, within}
+use Rattle.types.proofs.Place.{first-untyped, within}
 use Rattle.typing.proofs.Walk.{all-passed}
 use Rattle.typing.proofs.Walked.{Gathers, Root, Walked, Next, walked-fail}
 

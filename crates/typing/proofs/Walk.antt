@@ -6,8 +6,8 @@ use native.Mathlib.Omega.{arith}
 use lib.ListN.{length, length-append}
 use Rattle.term.specs.Heads.{Label}
 use Rattle.term.specs.Trees.{Tree, Forest, node, none, _▹_, count, _⧺_, words, words*}
-use Rattle.typing.specs.Sorts.{Sort, Context}
-use Rattle.typing.specs.TypeOf.{Conclusion, fails, gives, conclude, Typed, typed, untyped, Children, sorts, failed, decide, close, join, typeOf, typesOf}
+use Rattle.types.specs.Sorts.{Sort, Context}
+use Rattle.types.specs.TypeOf.{Conclusion, fails, gives, conclude, Typed, typed, untyped, Children, sorts, failed, decide, close, join, typeOf, typesOf}
 
 -- ---- an offset moves an answer along
 shifted : ℕ → Typed → Typed

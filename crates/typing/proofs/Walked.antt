@@ -14,15 +14,15 @@ use Rattle.term.proofs.Parsing.{⧺-assoc, count-⧺, words*-⧺, Grown, unread
 use Rattle.term.proofs.Extents.{depth*-⧺, parse-behind}
 use Rattle.typing.specs.declared.conclude.Gathered as G
 use Rattle.typing.specs.declared.sorts.Sorted as S
-use Rattle.typing.specs.Conclude.{alikeTo, allAlike, gatherMore}
-use Rattle.typing.specs.Records.{sortedOf}
-use Rattle.typing.specs.Rules.{_⊢_∶_, WellFormed}
-use Rattle.typing.specs.Sorts.{Sort, index, basis, scalar, ket, bra, operator, Context}
-use Rattle.typing.specs.TypeOf.{typed, untyped, sorts, typeOf, typesOf}
+use Rattle.typing.specs.Code.Conclude.{alikeTo, allAlike, gatherMore}
+use Rattle.typing.specs.Code.Records.{sortedOf}
+use Rattle.types.specs.Rules.{_⊢_∶_, WellFormed}
+use Rattle.types.specs.Sorts.{Sort, index, basis, scalar, ket, bra, operator, Context}
+use Rattle.types.specs.TypeOf.{typed, untyped, sorts, typeOf, typesOf}
 use Rattle.typing.proofs.Children.{lastOf, gatherOf}
 use Rattle.typing.proofs.OnRecords.{Neat, AllNeat, records}
-use Rattle.typing.proofs.Proper.{proper, index-short}
-use Rattle.typing.proofs.Sound.{sound}
+use Rattle.types.proofs.Proper.{proper, index-short}
+use Rattle.types.proofs.Sound.{sound}
 use Rattle.typing.proofs.Walk.{typed-at, untyped-at, types-more, types-fail, next-child}
 
 -- ---- gathering

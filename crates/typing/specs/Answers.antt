@@ -1,23 +1,25 @@
 -- The answer of "the typing of one term": document 01, "What comes out, by whose doing".
 use mathlib.Core.Path.{_≡_}
 use mathlib.Core.Bool.{true, cond}
-use mathlib.Core.List.{List, []}
+use mathlib.Core.List.{List, [], _++_}
 use Prim.Native.Nat.{ℕ, _≤_}
 use lib.Dec.{eqb}
-use lib.ListN.{length, take}
-use Rattle.term.specs.Parts.{parse}
+use lib.ListN.{length, take, replicate}
+use Rattle.term.specs.Parts.{parse, treeIn}
 use Rattle.term.specs.Terms.{maxWords, partDepth, IsTerm, isTerm}
 use Rattle.term.specs.Trees.{Tree, words}
-use Rattle.typing.specs.declared.sorts.Sorted as S
 use Rattle.typing.specs.declared.terms.Kind as K
 use Rattle.typing.specs.declared.terms.Kind.the-variants as Kinds
 use Rattle.typing.specs.declared.terms.TermType as T
 use Rattle.typing.specs.declared.terms.Typing as A
-use Rattle.typing.specs.Declarations.{treeIn, contextIn, namesIn, goodDeclarations}
-use Rattle.typing.specs.Records.{numberOf, pad}
-use Rattle.typing.specs.Rules.{_⊢_∶_, IsType}
-use Rattle.typing.specs.Sorts.{Sort, index, basis, scalar, ket, bra, operator}
-use Rattle.typing.specs.TypeOf.{Typed, typed, untyped, typeOf}
+use Rattle.declarations.specs.Declarations.{contextIn, namesIn, goodDeclarations}
+use Rattle.types.specs.Rules.{_⊢_∶_, IsType}
+use Rattle.types.specs.Sorts.{Sort, index, basis, scalar, ket, bra, operator}
+use Rattle.types.specs.TypeOf.{Typed, typed, untyped, typeOf}
+
+-- 01: "words of a type behind its indices are zero"
+unfoldable pub pad : List ℕ → List ℕ
+pad ws = take 63 (ws ++ replicate 63 0)
 
 -- 01: "A type is a record: its kind, which is scalar, ket, bra or operator and carries the index lengths, and the index words beside it"
 unfoldable pub typeRecord : K.Kind → List ℕ → List ℕ → T.TermType
@@ -55,18 +57,6 @@ typingOf ds ws n =
     (refuse 8 0))
     (refuse 7 0))
     (refuse 1 0)
-
--- ---- the same from the record that the code holds of a sort
-unfoldable pub accept : ℕ → ℕ → K.Kind → S.Sorted → A.Typing
-accept n d k s = record { code = 0; side = 0; step = 0; at = 0; length = n; depth = d; of = record { kind = k; rows = s .left .words; columns = s .right .words } }
-
-unfoldable pub answerTo : ℕ → ℕ → S.Sorted → A.Typing
-unfolding accept refuse
-answerTo n d s =
-    cond (eqb (numberOf (s .class)) 3) (accept n d Kinds.Scalar s)
-    (cond (eqb (numberOf (s .class)) 4) (accept n d (Kinds.Ket (s .left .len)) s)
-    (cond (eqb (numberOf (s .class)) 5) (accept n d (Kinds.Bra (s .right .len)) s)
-    (cond (eqb (numberOf (s .class)) 6) (accept n d (Kinds.Operator (s .left .len) (s .right .len)) s) (refuse 11 0))))
 
 -- ---- what an accepted answer means by the published rules: the first n words of the slice are a term, and it has a type
 pub record TypedTerm (ds ws : List ℕ) (n : ℕ) (t : Tree) (S : Sort) : Type 0 where

@@ -1,11 +1,4 @@
--- The definitions that the contracts of `typing` cite: declarations, the published typing rules, and the type of a term.
-pub mod Sorts
-pub mod Rules
-pub mod TypeOf
-pub mod First
-pub mod Records
-pub mod Declarations
-pub mod Put
-pub mod Conclude
-pub mod Verdicts
+-- The answer of the typing of one term, and what is proved of it.
 pub mod Answers
+pub mod Statements
+pub mod Code

@@ -12,7 +12,7 @@ use term::heads::Class;
 use term::heads::child_class;
 use term::heads::result_class;
 ghost use mathlib.Core.Path.{_≡_};
-ghost use Rattle.typing.specs.Conclude.{failure, success, multiplyOf, joinOf, deltaOf, pairOf, kroneckerOf, turned, unaryOf, oneOf, binaryOf, twoOf, alikeTo, likeOf, gatherMore, childrenOf};
+ghost use Rattle.typing.specs.Code.Conclude.{failure, success, multiplyOf, joinOf, deltaOf, pairOf, kroneckerOf, turned, unaryOf, oneOf, binaryOf, twoOf, alikeTo, likeOf, gatherMore, childrenOf};
 
 // What a rule concludes: a sort, or none.
 pub struct Outcome {

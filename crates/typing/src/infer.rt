@@ -17,12 +17,12 @@ ghost use mathlib.Core.Bool.{true};
 ghost use mathlib.Core.List.{[], _∷_};
 ghost use Prim.Native.Nat.{_≤_, _<_};
 ghost use lib.ListN.{length};
-ghost use Rattle.term.specs.Parts.{parse, part};
+ghost use Rattle.term.specs.Parts.{parse, part, treeIn};
 ghost use Rattle.term.specs.Terms.{partDepth};
-ghost use Rattle.typing.specs.Declarations.{treeIn, contextIn, goodDeclarations};
-ghost use Rattle.typing.specs.Records.{indexOf};
-ghost use Rattle.typing.specs.TypeOf.{typeOf};
-ghost use Rattle.typing.specs.Verdicts.{refusal, verdictOf, settleOf, leafOf};
+ghost use Rattle.declarations.specs.Declarations.{contextIn, goodDeclarations};
+ghost use Rattle.typing.specs.Code.Records.{indexOf};
+ghost use Rattle.types.specs.TypeOf.{typeOf};
+ghost use Rattle.typing.specs.Code.Verdicts.{refusal, verdictOf, settleOf, leafOf};
 
 // What typing finds of a part: its sort and its number of words, or the offset of the first untyped part.
 pub struct Verdict {

@@ -1,6 +1,4 @@
 mod conclude;
-pub mod constructor;
-pub mod declarations;
 mod infer;
 mod lookup;
 mod sorts;

@@ -4,14 +4,14 @@ use crate::sorts::Index;
 use crate::sorts::Sorted;
 use crate::sorts::no_index;
 use term::heads::Class;
-use term::words::copy_words;
+use words::copy_words;
 ghost use mathlib.Core.Path.{_≡_};
 ghost use mathlib.Core.Bool.{true};
 ghost use Prim.Native.Nat.{_+_, _≤_, _<_};
 ghost use lib.ListN.{length, getD, take, drop};
-ghost use Rattle.typing.specs.Declarations.{goodDeclarations, basisIn, variableIn};
-ghost use Rattle.typing.specs.Records.{indexOf, sortedOf};
-ghost use Rattle.typing.specs.Sorts.{basis};
+ghost use Rattle.declarations.specs.Declarations.{goodDeclarations, basisIn, variableIn};
+ghost use Rattle.typing.specs.Code.Records.{indexOf, sortedOf};
+ghost use Rattle.types.specs.Sorts.{basis};
 
 // The index that `n` words from `at` on are.
 fn index_at(ds: &[u16], at: usize, n: usize) -> Index

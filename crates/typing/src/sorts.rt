@@ -3,8 +3,8 @@ use term::heads::Class;
 ghost use mathlib.Core.Path.{_≡_};
 ghost use Prim.Native.Nat.{_+_, _≤_, _<_};
 ghost use lib.ListN.{length, getD};
-ghost use Rattle.typing.specs.Records.{numberOf, fitting, productWords, productOf, noIndex};
-ghost use Rattle.typing.specs.TypeOf.{sameWords};
+ghost use Rattle.typing.specs.Code.Records.{numberOf, fitting, productWords, productOf, noIndex};
+ghost use Rattle.words.specs.Words.{sameWords};
 
 // An index: its words with zeros behind. An absent one has length 0.
 pub struct Index {
@@ -60,7 +60,7 @@ pub fn same_index(a: Index, b: Index) -> bool
 {
     let x = a.words;
     let y = b.words;
-    term::words::first_difference(&x, &y) == 63
+    words::first_difference(&x, &y) == 63
 }
 
 pub fn no_index() -> Index

@@ -1,14 +1,15 @@
 // The typing of one term.
-use crate::declarations::are_good;
-use crate::declarations::names_of;
 use crate::infer::type_part;
 use crate::sorts::Sorted;
 use crate::sorts::number;
+use declarations::are_good;
+use declarations::names_of;
 use term::heads::Class;
 use term::terms::depth_at;
 use term::terms::is_term;
 ghost use mathlib.Core.Path.{_≡_};
-ghost use Rattle.typing.specs.Answers.{refuse, accept, answerTo, typingOf};
+ghost use Rattle.typing.specs.Answers.{refuse, typingOf};
+ghost use Rattle.typing.specs.Code.Accepting.{accept, answerTo};
 
 // The kind of a type, with the lengths of its indices.
 pub enum Kind {

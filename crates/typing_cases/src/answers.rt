@@ -1,36 +1,16 @@
 // Writes the answer to a case as one line of numbers.
-use libc::STDOUT_FILENO;
+use cases::input::front;
+use cases::output::also;
+use cases::output::also_words;
+use cases::output::end_line;
+use cases::output::first;
 use typing::terms::Kind;
 use typing::terms::Typing;
-
-fn first(value: usize) {
-    io::print_decimal(STDOUT_FILENO, value as u64);
-}
-
-fn also(value: usize) {
-    io::write_all(STDOUT_FILENO, b" ");
-    first(value);
-}
-
-fn wide(word: u16) -> usize {
-    word as usize
-}
-
-fn word_at(ws: &[u16; 63], i: usize) -> usize {
-    if i < 63 {
-        return wide(ws[i]);
-    }
-    0
-}
 
 // An index: its length, then its words.
 fn index(n: usize, ws: &[u16; 63]) {
     also(n);
-    let mut i = 0;
-    while i < n {
-        also(word_at(ws, i));
-        i += 1;
-    }
+    also_words(front(ws, n));
 }
 
 // A type: its kind as the constructor numbers it, then both indices, an absent one as length 0.
@@ -71,5 +51,5 @@ pub fn write(t: Typing) {
     let rows = of.rows;
     let columns = of.columns;
     type_of(kind, &rows, &columns);
-    io::write_all(STDOUT_FILENO, b"\n");
+    end_line();
 }

@@ -1,129 +1,52 @@
 // The declarations of a case, put together by the constructor of typing.
-use crate::input::Cursor;
-use crate::input::narrow;
-use crate::input::next_number;
-use crate::input::words;
-use typing::constructor::Put;
-use typing::constructor::put_basis;
-use typing::constructor::put_variable;
+use cases::input::narrow;
+use cases::input::next_count;
+use cases::input::next_number;
+use cases::input::next_words;
+use declarations::constructor::Put;
+use declarations::constructor::put_basis;
+use declarations::constructor::put_variable;
 
 // What the constructor refuses is to be refused by typing as well, so the declarations are made bad by any reading: 33 types.
 pub fn kept(ds: &mut [u16; 6179], put: Put) {
-    match put {
-        Put::Done => {}
-        Put::WrongSize => {
-            ds[0] = 33;
-        }
-        Put::Full => {
-            ds[0] = 33;
-        }
-        Put::Bad => {
-            ds[0] = 33;
-        }
+    if let Put::Done = put {
+        return;
     }
+    ds[0] = 33;
 }
 
-// An index as it was read, and where to read on.
-struct Held {
-    len: usize,
-    next: Cursor,
-}
-
-// An index of more words than the buffer has is held with as many as it has: too many for any index.
-fn clipped(n: usize) -> usize {
-    if 4096 < n {
-        return 4096;
-    }
-    n
-}
-
-fn read_index(buf: &mut [u8], c: Cursor, out: &mut [u16; 4096]) -> Held {
-    let n = next_number(buf, c);
-    let from = n.next;
-    let next = words(buf, from, out, n.value);
-    Held {
-        len: clipped(n.value),
-        next,
-    }
-}
-
-fn declare_basis(ds: &mut [u16], index: &[u16], n: usize) -> Put {
-    if index.len() < n {
-        return Put::Bad;
-    }
-    put_basis(ds, &index[..n])
-}
-
-fn declare_variable(
-    ds: &mut [u16],
-    kind: u16,
-    first: &[u16],
-    n: usize,
-    second: &[u16],
-    m: usize,
-) -> Put {
-    if first.len() < n {
-        return Put::Bad;
-    }
-    if second.len() < m {
-        return Put::Bad;
-    }
-    put_variable(ds, kind, &first[..n], &second[..m])
-}
-
-// These two take arrays, so that nothing is asked of their lengths after they were written.
-fn lend_basis(ds: &mut [u16; 6179], index: &[u16; 4096], n: usize) -> Put {
-    declare_basis(ds, index, n)
-}
-
-fn lend_variable(
-    ds: &mut [u16; 6179],
-    kind: u16,
-    first: &[u16; 4096],
-    n: usize,
-    second: &[u16; 4096],
-    m: usize,
-) -> Put {
-    declare_variable(ds, kind, first, n, second, m)
-}
-
-fn basis(buf: &mut [u8], c: Cursor, ds: &mut [u16; 6179]) -> Cursor {
-    let mut index = [0u16; 4096];
-    let i = read_index(buf, c, &mut index);
-    let put = lend_basis(ds, &index, i.len);
+// An index of more words than there is room for is declared with as many as there is: too many for any index.
+fn basis(ds: &mut [u16; 6179]) {
+    let mut room = [0u16; 4096];
+    let index = next_words(&mut room);
+    let put = put_basis(ds, index);
     kept(ds, put);
-    i.next
 }
 
-fn variable(buf: &mut [u8], c: Cursor, ds: &mut [u16; 6179]) -> Cursor {
-    let mut first = [0u16; 4096];
-    let mut second = [0u16; 4096];
-    let kind = next_number(buf, c);
-    let before = kind.next;
-    let i = read_index(buf, before, &mut first);
-    let between = i.next;
-    let j = read_index(buf, between, &mut second);
-    let put = lend_variable(ds, narrow(kind.value), &first, i.len, &second, j.len);
+fn variable(ds: &mut [u16; 6179]) {
+    let mut room = [0u16; 4096];
+    let mut more_room = [0u16; 4096];
+    let kind = narrow(next_number());
+    let first = next_words(&mut room);
+    let second = next_words(&mut more_room);
+    let put = put_variable(ds, kind, first, second);
     kept(ds, put);
-    j.next
 }
 
-pub fn bases(buf: &mut [u8], c: Cursor, ds: &mut [u16; 6179], n: usize) -> Cursor {
-    let mut next = c;
+fn entry(ds: &mut [u16; 6179], is_basis: bool) {
+    if is_basis {
+        basis(ds);
+    } else {
+        variable(ds);
+    }
+}
+
+// The bases of a case, or its variables: how many, and then each.
+pub fn entries(ds: &mut [u16; 6179], are_bases: bool) {
+    let n = next_count();
     let mut i = 0;
     while i < n {
-        next = basis(buf, next, ds);
+        entry(ds, are_bases);
         i += 1;
     }
-    next
-}
-
-pub fn variables(buf: &mut [u8], c: Cursor, ds: &mut [u16; 6179], n: usize) -> Cursor {
-    let mut next = c;
-    let mut i = 0;
-    while i < n {
-        next = variable(buf, next, ds);
-        i += 1;
-    }
-    next
 }

@@ -3,7 +3,7 @@ use mathlib.Core.Path.{sym}
 use borrow.Author.Needs.{needs}
 use lib.ListN.{List·getD-map}
 use Rattle.term.specs.Heads.{unknown, heads}
-use Rattle.term.specs.Lines.{lineOf, lineAt}
+use Rattle.term.specs.Code.Lines.{lineOf, lineAt}
 use Rattle.term.proofs.Lines.{line-past}
 use Rattle.term.proofs.heads.line_of.Statement.{statement}
 use Rattle.term.proofs.heads.line_of.Tie as tie

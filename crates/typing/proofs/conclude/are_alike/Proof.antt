@@ -2,7 +2,7 @@
 use mathlib.Core.Path.{sym, _∙_}
 use borrow.Author.Tests.{eq-eqb, ne-eqb}
 use borrow.Author.Needs.{needs}
-use Rattle.typing.specs.Conclude.{alikeTo}
+use Rattle.typing.specs.Code.Conclude.{alikeTo}
 use Rattle.typing.proofs.conclude.are_alike.Statement.{statement}
 use Rattle.typing.proofs.conclude.are_alike.Tie as tie
 

@@ -1,7 +1,7 @@
 -- The heads in the order of the definition.
 use borrow.Author.Tests.{eq-eqb, ne-eqb}
 use borrow.Author.Needs.{needs}
-use Rattle.typing.specs.Conclude.{binaryOf}
+use Rattle.typing.specs.Code.Conclude.{binaryOf}
 use Rattle.typing.proofs.conclude.binary.Statement.{statement}
 use Rattle.typing.proofs.conclude.binary.Tie as tie
 

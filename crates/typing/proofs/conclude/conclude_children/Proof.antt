@@ -1,7 +1,7 @@
 -- Sums first, then by the number of children.
 use borrow.Author.Tests.{eq-eqb, ne-eqb}
 use borrow.Author.Needs.{needs}
-use Rattle.typing.specs.Conclude.{childrenOf}
+use Rattle.typing.specs.Code.Conclude.{childrenOf}
 use Rattle.typing.proofs.conclude.conclude_children.Statement.{statement}
 use Rattle.typing.proofs.conclude.conclude_children.Tie as tie
 

@@ -1,7 +1,7 @@
 -- The child's class is tested, then the head decides.
 use mathlib.Core.Path.{sym, _∙_}
 use borrow.Author.Needs.{needs}
-use Rattle.typing.specs.Conclude.{oneOf}
+use Rattle.typing.specs.Code.Conclude.{oneOf}
 use Rattle.typing.proofs.conclude.conclude_one.Statement.{statement}
 use Rattle.typing.proofs.conclude.conclude_one.Tie as tie
 

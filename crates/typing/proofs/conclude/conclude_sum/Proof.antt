@@ -1,7 +1,7 @@
 -- The first child's class is tested, then whether the others are like it.
 use mathlib.Core.Path.{sym, _∙_}
 use borrow.Author.Needs.{needs}
-use Rattle.typing.specs.Conclude.{likeOf}
+use Rattle.typing.specs.Code.Conclude.{likeOf}
 use Rattle.typing.proofs.conclude.conclude_sum.Statement.{statement}
 use Rattle.typing.proofs.conclude.conclude_sum.Tie as tie
 

@@ -1,7 +1,7 @@
 -- The children's classes are tested, then the head decides.
 use mathlib.Core.Path.{sym, _∙_}
 use borrow.Author.Needs.{needs}
-use Rattle.typing.specs.Conclude.{twoOf}
+use Rattle.typing.specs.Code.Conclude.{twoOf}
 use Rattle.typing.proofs.conclude.conclude_two.Statement.{statement}
 use Rattle.typing.proofs.conclude.conclude_two.Tie as tie
 

@@ -1,7 +1,7 @@
 -- The two indices are compared.
 use mathlib.Core.Path.{sym, _∙_}
 use borrow.Author.Needs.{needs}
-use Rattle.typing.specs.Conclude.{deltaOf}
+use Rattle.typing.specs.Code.Conclude.{deltaOf}
 use Rattle.typing.proofs.conclude.delta.Statement.{statement}
 use Rattle.typing.proofs.conclude.delta.Tie as tie
 

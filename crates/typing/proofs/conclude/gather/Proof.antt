@@ -1,7 +1,7 @@
 -- The first child begins; each further one is compared with it.
 use borrow.Author.Tests.{eq-eqb, ne-eqb}
 use borrow.Author.Needs.{needs}
-use Rattle.typing.specs.Conclude.{gatherMore}
+use Rattle.typing.specs.Code.Conclude.{gatherMore}
 use Rattle.typing.proofs.conclude.gather.Statement.{statement}
 use Rattle.typing.proofs.conclude.gather.Tie as tie
 

@@ -1,6 +1,6 @@
 -- The product is short or not.
 use borrow.Author.Needs.{needs}
-use Rattle.typing.specs.Conclude.{joinOf}
+use Rattle.typing.specs.Code.Conclude.{joinOf}
 use Rattle.typing.proofs.conclude.joined.Statement.{statement}
 use Rattle.typing.proofs.conclude.joined.Tie as tie
 

@@ -1,7 +1,7 @@
 -- The inner indices are compared; the outer ones are the result's.
 use mathlib.Core.Path.{sym, _∙_}
 use borrow.Author.Needs.{needs}
-use Rattle.typing.specs.Conclude.{multiplyOf}
+use Rattle.typing.specs.Code.Conclude.{multiplyOf}
 use Rattle.typing.proofs.conclude.multiply.Statement.{statement}
 use Rattle.typing.proofs.conclude.multiply.Tie as tie
 

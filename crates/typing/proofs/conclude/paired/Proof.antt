@@ -1,7 +1,7 @@
 -- An absent index has length 0.
 use borrow.Author.Tests.{eq-eqb, ne-eqb}
 use borrow.Author.Needs.{needs}
-use Rattle.typing.specs.Conclude.{pairOf}
+use Rattle.typing.specs.Code.Conclude.{pairOf}
 use Rattle.typing.proofs.conclude.paired.Statement.{statement}
 use Rattle.typing.proofs.conclude.paired.Tie as tie
 

@@ -1,7 +1,7 @@
 -- The classes are compared by number; then the rows' product is short or not, then the columns'.
 use borrow.Author.Tests.{eq-eqb, ne-eqb, not-true, not-false}
 use borrow.Author.Needs.{needs}
-use Rattle.typing.specs.Conclude.{kroneckerOf}
+use Rattle.typing.specs.Code.Conclude.{kroneckerOf}
 use Rattle.typing.proofs.conclude.tensor.Statement.{statement}
 use Rattle.typing.proofs.conclude.tensor.Tie as tie
 

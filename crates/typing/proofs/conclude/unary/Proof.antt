@@ -1,7 +1,7 @@
 -- The heads in the order of the definition.
 use borrow.Author.Tests.{eq-eqb, ne-eqb}
 use borrow.Author.Needs.{needs}
-use Rattle.typing.specs.Conclude.{unaryOf}
+use Rattle.typing.specs.Code.Conclude.{unaryOf}
 use Rattle.typing.proofs.conclude.unary.Statement.{statement}
 use Rattle.typing.proofs.conclude.unary.Tie as tie
 

@@ -13,9 +13,9 @@ use Rattle.typing.proofs.infer.+type_part.Lts-type_part as type-part-lt
 use Rattle.term.specs.Trees.{count}
 use Rattle.term.proofs.Scan.{part-length, children-few}
 use Rattle.term.proofs.Parsing.{some-words}
-use Rattle.typing.specs.Declarations.{contextIn}
-use Rattle.typing.specs.Verdicts.{verdictOf}
-use Rattle.typing.proofs.Entries.{well-formed, declarations}
+use Rattle.declarations.specs.Declarations.{contextIn}
+use Rattle.typing.specs.Code.Verdicts.{verdictOf}
+use Rattle.declarations.proofs.Entries.{well-formed, declarations}
 use Rattle.typing.proofs.Verdicts.{says-typed, says-untyped, depth-is, wanted, known, leaf-verdict, all-verdict, next-inside, rest-is, child-part, child-depth, child-end, child-verdict, untyped-inside, untyped-verdict}
 use Rattle.typing.proofs.Walked.{Root, root, Walked, walked-none, next-of, next-depth, walked-by, neat}
 use Rattle.term.proofs.heads.arity_of.Reads as arity-of-reads

@@ -2,7 +2,7 @@
 use native.Mathlib.Omega.{arith}
 use borrow.Author.Tests.{eq-eqb, ne-eqb, lt-ltb, le-ltb}
 use borrow.Author.Needs.{needs}
-use Rattle.typing.specs.Verdicts.{leafOf}
+use Rattle.typing.specs.Code.Verdicts.{leafOf}
 use Rattle.typing.proofs.infer.conclude_leaf.Statement.{statement}
 use Rattle.typing.proofs.infer.conclude_leaf.Tie as tie
 

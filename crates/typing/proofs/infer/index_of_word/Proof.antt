@@ -1,6 +1,6 @@
 -- One word, and zeros.
 use mathlib.Core.Path.{refl}
-use Rattle.typing.specs.Records.{indexOf}
+use Rattle.typing.specs.Code.Records.{indexOf}
 use borrow.Author.Needs.{needs}
 use Rattle.typing.proofs.infer.index_of_word.Statement.{statement}
 use Rattle.typing.proofs.infer.index_of_word.Tie as tie

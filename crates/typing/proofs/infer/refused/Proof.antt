@@ -1,6 +1,6 @@
 -- No index on either side.
 use borrow.Author.Needs.{needs}
-use Rattle.typing.specs.Records.{sortedOf}
+use Rattle.typing.specs.Code.Records.{sortedOf}
 use Rattle.typing.proofs.infer.refused.Statement.{statement}
 use Rattle.typing.proofs.infer.refused.Tie as tie
 

@@ -1,6 +1,6 @@
 -- The conclusion gives a sort or none.
 use borrow.Author.Needs.{needs}
-use Rattle.typing.specs.Verdicts.{settleOf}
+use Rattle.typing.specs.Code.Verdicts.{settleOf}
 use Rattle.typing.proofs.infer.settled.Statement.{statement}
 use Rattle.typing.proofs.infer.settled.Tie as tie
 

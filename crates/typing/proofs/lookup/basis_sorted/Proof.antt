@@ -2,9 +2,9 @@
 use Prim.Native.Nat.{_+_, _*_}
 use native.Mathlib.Omega.{arith}
 use borrow.Author.Needs.{needs}
-use Rattle.typing.specs.Declarations.{basisIn}
-use Rattle.typing.specs.Records.{sortedOf}
-use Rattle.typing.proofs.Entries.{basis-good, basis-room}
+use Rattle.declarations.specs.Declarations.{basisIn}
+use Rattle.typing.specs.Code.Records.{sortedOf}
+use Rattle.declarations.proofs.Entries.{basis-good, basis-room}
 use Rattle.typing.proofs.lookup.basis_sorted.Statement.{statement}
 use Rattle.typing.proofs.lookup.basis_sorted.Tie as tie
 

@@ -1,6 +1,6 @@
 -- The words laid over zeros are the index's words with zeros behind.
 use borrow.Author.Needs.{needs}
-use Rattle.typing.proofs.Entries.{index-laid}
+use Rattle.typing.proofs.Laid.{index-laid}
 use Rattle.typing.proofs.lookup.index_at.Statement.{statement}
 use Rattle.typing.proofs.lookup.index_at.Tie as tie
 

@@ -3,8 +3,8 @@ use Prim.Native.Nat.{_+_, _*_}
 use mathlib.Core.Path.{_≡_}
 use native.Mathlib.Omega.{arith}
 use borrow.Author.Needs.{needs}
-use Rattle.typing.specs.Records.{sortedOf}
-use Rattle.typing.proofs.Entries.{kind, kind-0, kind-1, kind-2, kind-3, variable-good, variable-room}
+use Rattle.typing.specs.Code.Records.{sortedOf}
+use Rattle.declarations.proofs.Entries.{kind, kind-0, kind-1, kind-2, kind-3, variable-good, variable-room}
 use Rattle.typing.proofs.lookup.variable_sorted.Statement.{statement}
 use Rattle.typing.proofs.lookup.variable_sorted.Tie as tie
 

@@ -4,7 +4,7 @@ use Prim.Native.Nat.{_-_, _≤_}
 use native.Mathlib.Omega.{arith}
 use borrow.Author.Needs.{needs}
 use lib.ListN.{length, take, length-set}
-use Rattle.typing.specs.Records.{productWords}
+use Rattle.typing.specs.Code.Records.{productWords}
 use Rattle.typing.proofs.Records.{length-product, filled-more, filled-all}
 use Rattle.typing.proofs.sorts.fill_product.Statement.{statement}
 use Rattle.typing.proofs.sorts.fill_product.Tie as tie

@@ -5,7 +5,7 @@ use native.Mathlib.Omega.{arith}
 use borrow.Author.Needs.{needs}
 use borrow.Author.Tests.{le-leb, lt-leb}
 use lib.ListN.{length}
-use Rattle.typing.specs.Records.{productOf}
+use Rattle.typing.specs.Code.Records.{productOf}
 use Rattle.typing.proofs.sorts.index_product.Statement.{statement}
 use Rattle.typing.proofs.sorts.index_product.Tie as tie
 

@@ -1,5 +1,5 @@
 use mathlib.Core.Path.{refl}
-use Rattle.typing.specs.Records.{noIndex}
+use Rattle.typing.specs.Code.Records.{noIndex}
 use Rattle.typing.proofs.sorts.no_index.Statement.{statement}
 use Rattle.typing.proofs.sorts.no_index.Tie as tie
 

@@ -2,7 +2,7 @@
 use mathlib.Core.Path.{_≡_, sym, _∙_}
 use borrow.Author.Needs.{needs}
 use lib.ListN.{length}
-use Rattle.typing.proofs.Records.{same-agreeing}
+use Rattle.words.proofs.Runs.{same-agreeing}
 use Rattle.typing.proofs.sorts.same_index.Statement.{statement}
 use Rattle.typing.proofs.sorts.same_index.Tie as tie
 

@@ -1,5 +1,5 @@
 use mathlib.Core.Path.{refl}
-use Rattle.typing.specs.Answers.{accept}
+use Rattle.typing.specs.Code.Accepting.{accept}
 use Rattle.typing.proofs.terms.accepted.Statement.{statement}
 use Rattle.typing.proofs.terms.accepted.Tie as tie
 

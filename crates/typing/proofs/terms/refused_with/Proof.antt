@@ -1,6 +1,6 @@
 use mathlib.Core.Path.{refl}
 use Rattle.typing.specs.Answers.{refuse, typeRecord}
-use Rattle.typing.specs.Records.{pad}
+use Rattle.typing.specs.Answers.{pad}
 use Rattle.typing.proofs.terms.refused_with.Statement.{statement}
 use Rattle.typing.proofs.terms.refused_with.Tie as tie
 

@@ -1,0 +1,32 @@
+-- Each answer is the first condition of the definition that fails, or the last one.
+use mathlib.Core.Path.{sym, _∙_}
+use borrow.Author.Tests.{le-leb, lt-leb, not-true, not-false}
+use borrow.Author.Needs.{needs}
+use Rattle.declarations.specs.Declarations.{isVariable}
+use Rattle.declarations.proofs.Entries.{turned}
+use Rattle.declarations.proofs.is_variable.Statement.{statement}
+use Rattle.declarations.proofs.is_variable.Tie as tie
+
+returns : tie.Need-returns
+unfolding isVariable
+returns c = rw (lt-leb _ _ (c .if1 .taken))
+
+is-wanted-requires : tie.Need-is-wanted-requires
+is-wanted-requires c κs = search needs
+
+returns-2 : tie.Need-returns-2
+unfolding isVariable
+returns-2 c = rw (le-leb _ _ (c .before .before .if1 .left), sym (c .before .is-wanted .ensures) ∙ not-true _ (c .if2 .taken))
+
+is-wanted-requires-2 : tie.Need-is-wanted-requires-2
+is-wanted-requires-2 c κs = search needs
+
+returns-3 : tie.Need-returns-3
+unfolding isVariable
+returns-3 c =
+    let first = sym (c .before .before .is-wanted .ensures) ∙ not-false _ (c .before .if2 .left) in
+    rw (le-leb _ _ (c .before .before .before .if1 .left), first, turned) (c .is-wanted2 .ensures)
+
+pub is-variable-spec : {M : Type 1} → statement M
+is-variable-spec =
+    tie.close (tie.spec returns is-wanted-requires returns-2 is-wanted-requires-2 returns-3)

@@ -1,0 +1,65 @@
+-- The invariant: every entry below `a` is good. The measure is what is left of the count.
+use mathlib.Core.Path.{_≡_, sym, _∙_}
+use mathlib.Core.Bool.{true}
+use Prim.Native.Nat.{ℕ, _-_, _≤_, _<_}
+use native.Mathlib.Omega.{arith}
+use borrow.Author.Count.{below-none, below-more}
+use borrow.Author.Tests.{not-true, not-false}
+use borrow.Author.Needs.{needs}
+use Rattle.declarations.specs.Declarations.{goodVariable}
+use Rattle.declarations.proofs.Entries.{allUpTo-all, allUpTo-fails}
+use Rattle.declarations.proofs.variables_are_good.Statement.{statement}
+use Rattle.declarations.proofs.variables_are_good.Tie as tie
+
+abbrev Inv-loop : tie.InvT-loop
+Inv-loop ds n a₀ a = (a ≤ n) × ((k : ℕ) → k < a → goodVariable ds k ≡ true)
+
+abbrev μ-loop : tie.MeasureT-loop
+μ-loop ds n a₀ a = n - a
+
+shared-slice-read-n : tie.Need-shared-slice-read-n Inv-loop μ-loop
+shared-slice-read-n c = search needs
+
+cast-n : tie.Need-cast-n Inv-loop μ-loop
+cast-n c = omega (arith, c .shared-slice-known2 .given 2)
+
+loop-holds : tie.Need-loop-holds Inv-loop μ-loop
+loop-holds c = (omega arith, below-none _)
+
+variable-is-good-requires : tie.Need-variable-is-good-requires Inv-loop μ-loop
+variable-is-good-requires c κs = search needs
+
+returns : tie.Need-returns Inv-loop μ-loop
+returns c =
+    let a = c .before .before .before .loop .a in
+    sym (allUpTo-fails _ _ a (omega arith) (sym (c .before .variable-is-good .ensures) ∙ not-true _ (c .if1 .taken)))
+
+add-a : tie.Need-add-a Inv-loop μ-loop
+add-a c = search needs
+
+loop-less : tie.Need-loop-less Inv-loop μ-loop
+loop-less c = search needs
+
+loop-again : tie.Need-loop-again Inv-loop μ-loop
+loop-again c = (omega arith, below-more _ _ (c .before .before .before .loop .inv .1) (sym (c .before .variable-is-good .ensures) ∙ not-false _ (c .if1 .left)))
+
+returns-2 : tie.Need-returns-2 Inv-loop μ-loop
+returns-2 c =
+    let all = c .before .loop .inv .1 in
+    sym (allUpTo-all _ _ λ a h. all a (omega arith))
+
+pub variables-are-good-spec : {M : Type 1} → statement M
+variables-are-good-spec =
+    tie.close
+    (tie.spec
+    Inv-loop
+    μ-loop
+    shared-slice-read-n
+    cast-n
+    loop-holds
+    variable-is-good-requires
+    returns
+    add-a
+    loop-less
+    loop-again
+    returns-2)

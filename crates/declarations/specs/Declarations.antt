@@ -1,0 +1,118 @@
+-- Declarations as a caller lends them: one slice of 6,179 words of fixed layout, so that a name's entry is found by its number.
+--     word 0             the number of type names
+--     word 1             the number of basis names
+--     word 2             the number of variables
+--     from 3             32 entries of 64 words, one for each basis name: the length of its index, then the index's words
+--     from 2051          32 entries of 129 words, one for each variable: its kind (0 scalar, 1 ket, 2 bra, 3 operator), the lengths of its two indices, then 63
+--                        words for each. A scalar has no index, a ket or a bra has its index as the first, an operator its rows' and its columns'
+-- Words that no entry's length takes in are not looked at.
+use mathlib.Core.Bool.{Bool, true, cond, _&&_}
+use mathlib.Core.List.{List, [], _∷_}
+use Prim.Native.Nat.{ℕ, zero, suc, _+_, _*_, _/_, _%_}
+use lib.Dec.{eqb, leb, ltb}
+use lib.ListN.{length, getD, take, drop}
+use Rattle.term.specs.declared.terms.Names.{Names}
+use Rattle.term.specs.Trees.{Tree}
+use Rattle.term.specs.Parts.{parse, part, treeIn}
+use Rattle.term.specs.Terms.{maxIndex, maxNames}
+use Rattle.types.specs.Sorts.{Sort, scalar, ket, bra, operator, Context}
+
+abbrev pub size : ℕ
+size = 6179
+
+abbrev pub basisAt : ℕ → ℕ
+basisAt a = 3 + a * 64
+
+abbrev pub variableAt : ℕ → ℕ
+variableAt a = 2051 + a * 129
+
+-- the tree that the first n words from an offset on make, where they do
+unfoldable pub indexIn : List ℕ → ℕ → ℕ → Tree
+unfolding treeIn parse
+indexIn ds at n = treeIn (parse (take n (drop at ds)))
+
+-- the items of 0 .. n − 1
+unfoldable pub upTo : {A : Type 0} → ℕ → (ℕ → A) → List A
+upTo zero f = []
+upTo (suc n) f = f 0 ∷ upTo n λ k. f (suc k)
+
+-- the type of a variable, by its kind
+unfoldable pub typeIn : ℕ → Tree → Tree → Sort
+typeIn kind σ τ = cond (eqb kind 1) (ket σ) (cond (eqb kind 2) (bra σ) (cond (eqb kind 3) (operator σ τ) scalar))
+
+unfoldable pub basisIn : List ℕ → ℕ → Tree
+unfolding indexIn
+basisIn ds a = indexIn ds (basisAt a + 1) (getD ds (basisAt a) 0)
+
+unfoldable pub variableIn : List ℕ → ℕ → Sort
+unfolding indexIn typeIn
+variableIn ds a =
+    let at = variableAt a in
+    typeIn (getD ds at 0) (indexIn ds (at + 3) (getD ds (at + 1) 0)) (indexIn ds (at + 66) (getD ds (at + 2) 0))
+
+-- what the declarations declare
+unfoldable pub contextIn : List ℕ → Context
+unfolding upTo basisIn variableIn
+contextIn ds = record { types = getD ds 0 0; bases = upTo (getD ds 1 0) (basisIn ds); variables = upTo (getD ds 2 0) (variableIn ds) }
+
+-- ---- when they are good. 01, code 7: "a declaration is not exactly the indices wanted, or breaks a limit or a name"
+-- a word of an index: a declared type name, or a product's head
+unfoldable pub indexWord : ℕ → ℕ → Bool
+indexWord N w = cond (eqb (w / 256) 1) (ltb (w % 256) N) (eqb w 512)
+
+unfoldable pub indexWords : ℕ → List ℕ → Bool
+unfolding indexWord
+indexWords N [] = true
+indexWords N (w ∷ ws) = indexWord N w && indexWords N ws
+
+-- words that are exactly one index
+unfoldable pub isIndex : ℕ → List ℕ → Bool
+unfolding indexWords part
+isIndex N ws =
+    ltb 0 (length ws) && (leb (length ws) maxIndex && (eqb (length (part ws 0)) (length ws) && indexWords N ws))
+
+-- a kind from 0 to 3, and exactly the indices that it wants: the others are empty
+unfoldable pub isVariable : ℕ → ℕ → List ℕ → List ℕ → Bool
+isVariable N kind first second =
+    leb kind 3
+    && (cond (eqb kind 0) (eqb (length first) 0) (isIndex N first)
+    && cond (eqb kind 3) (isIndex N second) (eqb (length second) 0))
+
+-- the same of words in their places. A length word may say anything, so it is tested first
+unfoldable pub goodIndex : ℕ → List ℕ → ℕ → ℕ → Bool
+goodIndex N ds at n = leb n maxIndex && isIndex N (take n (drop at ds))
+
+unfoldable pub goodBasis : List ℕ → ℕ → Bool
+unfolding goodIndex
+goodBasis ds a = goodIndex (getD ds 0 0) ds (basisAt a + 1) (getD ds (basisAt a) 0)
+
+unfoldable pub goodVariable : List ℕ → ℕ → Bool
+goodVariable ds a =
+    let at = variableAt a in
+    let n = getD ds (at + 1) 0 in
+    let m = getD ds (at + 2) 0 in
+    leb n maxIndex
+    && (leb m maxIndex
+    && isVariable (getD ds 0 0) (getD ds at 0) (take n (drop (at + 3) ds)) (take m (drop (at + 66) ds)))
+
+-- a test that all of 0 .. n − 1 pass
+unfoldable pub allUpTo : ℕ → (ℕ → Bool) → Bool
+allUpTo zero f = true
+allUpTo (suc n) f = f 0 && allUpTo n λ k. f (suc k)
+
+-- "Names are 0 to 31": no count is above 32
+unfoldable pub counted : ℕ → ℕ → ℕ → Bool
+counted types bases variables = leb types maxNames && (leb bases maxNames && leb variables maxNames)
+
+unfoldable pub goodDeclarations : List ℕ → Bool
+unfolding counted allUpTo goodBasis goodVariable
+goodDeclarations ds =
+    eqb (length ds) size
+    && (counted (getD ds 0 0) (getD ds 1 0) (getD ds 2 0)
+    && (allUpTo (getD ds 1 0) (goodBasis ds)
+    && allUpTo (getD ds 2 0) (goodVariable ds)))
+
+-- how many names of each kind are declared; none in a slice that is not of the size
+unfoldable pub namesIn : List ℕ → Names
+namesIn ds =
+    cond (eqb (length ds) size) (record { types = getD ds 0 0; bases = getD ds 1 0; variables = getD ds 2 0 }) (record { types = 0; bases = 0; variables = 0 })

@@ -1,0 +1,194 @@
+// Declarations as a caller lends them: one slice of words of fixed layout.
+pub mod constructor;
+
+use term::parts::part_end;
+use term::terms::Names;
+ghost use mathlib.Core.Path.{_≡_};
+ghost use mathlib.Core.Bool.{true, cond};
+ghost use Prim.Native.Nat.{_+_, _≤_, _<_};
+ghost use lib.Dec.{eqb};
+ghost use lib.ListN.{length, getD};
+ghost use Rattle.declarations.specs.Declarations.{indexWord, indexWords, isIndex, isVariable, goodBasis, goodVariable, allUpTo, counted, goodDeclarations, namesIn};
+
+// The words of all declarations, used or not.
+pub const SIZE: usize = 6179;
+
+// Whether a word may stand in an index over so many types.
+fn is_index_word(types: usize, word: u16) -> bool
+    ensures { λ r. ⌜ r ≡ indexWord types word ⌝ }
+{
+    if word / 256 == 1 {
+        let name = (word % 256) as usize;
+        return name < types;
+    }
+    word == 512
+}
+
+fn are_index_words(types: usize, ws: &[u16]) -> bool
+    ensures { λ r. ⌜ r ≡ indexWords types (now (ws .entry)) ⌝ }
+{
+    let mut i = 0;
+    while i < ws.len() {
+        if !is_index_word(types, ws[i]) {
+            return false;
+        }
+        i += 1;
+    }
+    true
+}
+
+// Whether all words are exactly one index over so many types.
+pub fn is_index(types: usize, ws: &[u16]) -> bool
+    ensures { λ r. ⌜ r ≡ isIndex types (now (ws .entry)) ⌝ }
+{
+    if ws.len() == 0 {
+        return false;
+    }
+    if 63 < ws.len() {
+        return false;
+    }
+    if part_end(ws, 0) != ws.len() {
+        return false;
+    }
+    are_index_words(types, ws)
+}
+
+// Each entry of a caller's slice. Its length word may say anything, so it is tested before the part is taken.
+fn basis_is_good(ds: &[u16], a: usize) -> bool
+    requires { ⌜ (length (now ds) ≡ 6179) × (a < 32) ⌝ }
+    ensures { λ r. ⌜ r ≡ goodBasis (now (ds .entry)) a ⌝ }
+{
+    let at = 3 + a * 64;
+    let n = ds[at] as usize;
+    if 63 < n {
+        return false;
+    }
+    let start = at + 1;
+    let end = start + n;
+    is_index(ds[0] as usize, &ds[start..end])
+}
+
+// Whether words are an index where one is wanted, and none where it is to be absent.
+fn is_wanted(absent: bool, types: usize, ws: &[u16]) -> bool
+    ensures { λ r. ⌜ r ≡ cond absent (eqb (length (now (ws .entry))) 0) (isIndex types (now (ws .entry))) ⌝ }
+{
+    if absent {
+        return ws.len() == 0;
+    }
+    is_index(types, ws)
+}
+
+// Whether a kind is one, and the words are exactly the indices that it wants.
+pub fn is_variable(types: usize, kind: u16, first: &[u16], second: &[u16]) -> bool
+    ensures { λ r. ⌜ r ≡ isVariable types kind (now (first .entry)) (now (second .entry)) ⌝ }
+{
+    if 3 < kind {
+        return false;
+    }
+    if !is_wanted(kind == 0, types, first) {
+        return false;
+    }
+    is_wanted(kind != 3, types, second)
+}
+
+fn variable_is_good(ds: &[u16], a: usize) -> bool
+    requires { ⌜ (length (now ds) ≡ 6179) × (a < 32) ⌝ }
+    ensures { λ r. ⌜ r ≡ goodVariable (now (ds .entry)) a ⌝ }
+{
+    let at = 2051 + a * 129;
+    let n = ds[at + 1] as usize;
+    let m = ds[at + 2] as usize;
+    if 63 < n {
+        return false;
+    }
+    if 63 < m {
+        return false;
+    }
+    let first = at + 3;
+    let second = at + 66;
+    let first_end = first + n;
+    let second_end = second + m;
+    is_variable(
+        ds[0] as usize,
+        ds[at],
+        &ds[first..first_end],
+        &ds[second..second_end],
+    )
+}
+
+fn bases_are_good(ds: &[u16]) -> bool
+    requires { ⌜ (length (now ds) ≡ 6179) × (getD (now ds) 1 0 ≤ 32) ⌝ }
+    ensures { λ r. ⌜ r ≡ allUpTo (getD (now (ds .entry)) 1 0) (goodBasis (now (ds .entry))) ⌝ }
+{
+    let n = ds[1] as usize;
+    let mut a = 0;
+    while a < n {
+        if !basis_is_good(ds, a) {
+            return false;
+        }
+        a += 1;
+    }
+    true
+}
+
+fn variables_are_good(ds: &[u16]) -> bool
+    requires { ⌜ (length (now ds) ≡ 6179) × (getD (now ds) 2 0 ≤ 32) ⌝ }
+    ensures { λ r. ⌜ r ≡ allUpTo (getD (now (ds .entry)) 2 0) (goodVariable (now (ds .entry))) ⌝ }
+{
+    let n = ds[2] as usize;
+    let mut a = 0;
+    while a < n {
+        if !variable_is_good(ds, a) {
+            return false;
+        }
+        a += 1;
+    }
+    true
+}
+
+// Whether no count is above the names that there are.
+pub(crate) fn are_counts(types: u16, bases: u16, variables: u16) -> bool
+    ensures { λ r. ⌜ r ≡ counted types bases variables ⌝ }
+{
+    if 32 < types {
+        return false;
+    }
+    if 32 < bases {
+        return false;
+    }
+    variables <= 32
+}
+
+// Whether a slice is good declarations: of the size, and each entry exactly the indices wanted, within the limits and the names.
+pub fn are_good(ds: &[u16]) -> bool
+    ensures { λ r. ⌜ r ≡ goodDeclarations (now (ds .entry)) ⌝ }
+{
+    if ds.len() != SIZE {
+        return false;
+    }
+    if !are_counts(ds[0], ds[1], ds[2]) {
+        return false;
+    }
+    if !bases_are_good(ds) {
+        return false;
+    }
+    variables_are_good(ds)
+}
+
+// How many names of each kind are declared; none where the slice is not of the size.
+pub fn names_of(ds: &[u16]) -> Names
+    ensures { λ r. ⌜ r ≡ namesIn (now (ds .entry)) ⌝ }
+{
+    if ds.len() != SIZE {
+        return Names {
+            types: 0,
+            bases: 0,
+            variables: 0,
+        };
+    }
+    Names {
+        types: ds[0] as usize,
+        bases: ds[1] as usize,
+        variables: ds[2] as usize,
+    }
+}

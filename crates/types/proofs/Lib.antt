@@ -1,0 +1,6 @@
+-- The laws of sorts that the crates above cite.
+pub mod Complete
+pub mod Proper
+pub mod Sound
+pub mod Replace
+pub mod Place

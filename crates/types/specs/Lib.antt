@@ -1,0 +1,5 @@
+-- Sorts, the published typing rules, and the type of a term.
+pub mod Sorts
+pub mod Rules
+pub mod TypeOf
+pub mod First

@@ -1,0 +1,93 @@
+-- The published typing rules: source document 004, figures 3 to 7, in their order and under their names, before them the names of figure 1's rule Var.
+-- `index σ` is 004's "σ : Base": the part is an index, namely σ. Where a rule forms a product of indices it asks that the product is short.
+-- Figure 6's MulB has a bra as its first factor (01).
+use mathlib.Core.Path.{_≡_}
+use mathlib.Core.Option.{some}
+use Prim.Native.Nat.{ℕ, _≤_, _<_}
+use lib.ListN.{length, getElem?}
+use Rattle.term.specs.Heads.{type-name, basis-name, variable, index-product, pair, scalar-zero, scalar-one, scalar-sum, scalar-product, conjugate, delta, dot, zero-ket, zero-bra, zero-operator, identity, basis-ket, basis-bra, adjoint, scale, add, tensor, mulk, mulb, outer, mulo}
+use Rattle.term.specs.Trees.{Tree, Forest, node, none, _▹_}
+use Rattle.term.specs.Terms.{maxNames}
+use Rattle.types.specs.Sorts.{Sort, index, basis, scalar, ket, bra, operator, Context, _⊠_, Short}
+
+infix 3 _⊢_∶_
+infix 3 _⊢*_∶_
+mutual
+  pub data _⊢_∶_ (Γ : Context) : Tree → Sort → Type 0 where
+    -- Var: names, as declared
+    type-var : {a : ℕ} → a < Γ .types → Γ ⊢ node (type-name a) none ∶ index (node (type-name a) none)
+    basis-var : {a : ℕ} {σ : Tree} → getElem? (Γ .bases) a ≡ some σ → Γ ⊢ node (basis-name a) none ∶ basis σ
+    term-var : {a : ℕ} {S : Sort} → getElem? (Γ .variables) a ≡ some S → Γ ⊢ node (variable a) none ∶ S
+    -- figure 3
+    sca-0 : Γ ⊢ node scalar-zero none ∶ scalar
+    sca-1 : Γ ⊢ node scalar-one none ∶ scalar
+    sca-delta : {s t σ : Tree} → Γ ⊢ s ∶ basis σ → Γ ⊢ t ∶ basis σ → Γ ⊢ node delta (s ▹ t ▹ none) ∶ scalar
+    sca-add : {a : Tree} {f : Forest} → Γ ⊢ a ∶ scalar → Γ ⊢* f ∶ scalar → Γ ⊢ node scalar-sum (a ▹ f) ∶ scalar
+    sca-mul : {a : Tree} {f : Forest} → Γ ⊢ a ∶ scalar → Γ ⊢* f ∶ scalar → Γ ⊢ node scalar-product (a ▹ f) ∶ scalar
+    sca-conj : {a : Tree} → Γ ⊢ a ∶ scalar → Γ ⊢ node conjugate (a ▹ none) ∶ scalar
+    sca-dot : {B K σ : Tree} → Γ ⊢ B ∶ bra σ → Γ ⊢ K ∶ ket σ → Γ ⊢ node dot (B ▹ K ▹ none) ∶ scalar
+    -- figure 4
+    base-prod : {s t σ τ : Tree} → Γ ⊢ s ∶ index σ → Γ ⊢ t ∶ index τ → Short (σ ⊠ τ) → Γ ⊢ node index-product (s ▹ t ▹ none) ∶ index (σ ⊠ τ)
+    pair-base : {s t σ τ : Tree} → Γ ⊢ s ∶ basis σ → Γ ⊢ t ∶ basis τ → Short (σ ⊠ τ) → Γ ⊢ node pair (s ▹ t ▹ none) ∶ basis (σ ⊠ τ)
+    -- figure 5
+    ket-0 : {s σ : Tree} → Γ ⊢ s ∶ index σ → Γ ⊢ node zero-ket (s ▹ none) ∶ ket σ
+    ket-base : {t σ : Tree} → Γ ⊢ t ∶ basis σ → Γ ⊢ node basis-ket (t ▹ none) ∶ ket σ
+    ket-adj : {B σ : Tree} → Γ ⊢ B ∶ bra σ → Γ ⊢ node adjoint (B ▹ none) ∶ ket σ
+    ket-scr : {a K σ : Tree} → Γ ⊢ a ∶ scalar → Γ ⊢ K ∶ ket σ → Γ ⊢ node scale (a ▹ K ▹ none) ∶ ket σ
+    ket-add : {K σ : Tree} {f : Forest} → Γ ⊢ K ∶ ket σ → Γ ⊢* f ∶ ket σ → Γ ⊢ node add (K ▹ f) ∶ ket σ
+    ket-mulk : {O K σ τ : Tree} → Γ ⊢ O ∶ operator σ τ → Γ ⊢ K ∶ ket τ → Γ ⊢ node mulk (O ▹ K ▹ none) ∶ ket σ
+    ket-tsr : {K L σ τ : Tree} → Γ ⊢ K ∶ ket σ → Γ ⊢ L ∶ ket τ → Short (σ ⊠ τ) → Γ ⊢ node tensor (K ▹ L ▹ none) ∶ ket (σ ⊠ τ)
+    -- figure 6
+    bra-0 : {s σ : Tree} → Γ ⊢ s ∶ index σ → Γ ⊢ node zero-bra (s ▹ none) ∶ bra σ
+    bra-base : {t σ : Tree} → Γ ⊢ t ∶ basis σ → Γ ⊢ node basis-bra (t ▹ none) ∶ bra σ
+    bra-adj : {K σ : Tree} → Γ ⊢ K ∶ ket σ → Γ ⊢ node adjoint (K ▹ none) ∶ bra σ
+    bra-scr : {a B σ : Tree} → Γ ⊢ a ∶ scalar → Γ ⊢ B ∶ bra σ → Γ ⊢ node scale (a ▹ B ▹ none) ∶ bra σ
+    bra-add : {B σ : Tree} {f : Forest} → Γ ⊢ B ∶ bra σ → Γ ⊢* f ∶ bra σ → Γ ⊢ node add (B ▹ f) ∶ bra σ
+    bra-mulb : {B O σ τ : Tree} → Γ ⊢ B ∶ bra σ → Γ ⊢ O ∶ operator σ τ → Γ ⊢ node mulb (B ▹ O ▹ none) ∶ bra τ
+    bra-tsr : {B C σ τ : Tree} → Γ ⊢ B ∶ bra σ → Γ ⊢ C ∶ bra τ → Short (σ ⊠ τ) → Γ ⊢ node tensor (B ▹ C ▹ none) ∶ bra (σ ⊠ τ)
+    -- figure 7
+    opt-0 : {s t σ τ : Tree} → Γ ⊢ s ∶ index σ → Γ ⊢ t ∶ index τ → Γ ⊢ node zero-operator (s ▹ t ▹ none) ∶ operator σ τ
+    opt-1 : {s σ : Tree} → Γ ⊢ s ∶ index σ → Γ ⊢ node identity (s ▹ none) ∶ operator σ σ
+    opt-adj : {O σ τ : Tree} → Γ ⊢ O ∶ operator σ τ → Γ ⊢ node adjoint (O ▹ none) ∶ operator τ σ
+    opt-scr : {a O σ τ : Tree} → Γ ⊢ a ∶ scalar → Γ ⊢ O ∶ operator σ τ → Γ ⊢ node scale (a ▹ O ▹ none) ∶ operator σ τ
+    opt-add : {O σ τ : Tree} {f : Forest} → Γ ⊢ O ∶ operator σ τ → Γ ⊢* f ∶ operator σ τ → Γ ⊢ node add (O ▹ f) ∶ operator σ τ
+    opt-outer : {K B σ τ : Tree} → Γ ⊢ K ∶ ket σ → Γ ⊢ B ∶ bra τ → Γ ⊢ node outer (K ▹ B ▹ none) ∶ operator σ τ
+    opt-mulo : {O P σ τ ρ : Tree} → Γ ⊢ O ∶ operator σ τ → Γ ⊢ P ∶ operator τ ρ → Γ ⊢ node mulo (O ▹ P ▹ none) ∶ operator σ ρ
+    opt-tsr : {O P σ τ υ φ : Tree} → Γ ⊢ O ∶ operator σ τ → Γ ⊢ P ∶ operator υ φ → Short (σ ⊠ υ) → Short (τ ⊠ φ)
+        → Γ ⊢ node tensor (O ▹ P ▹ none) ∶ operator (σ ⊠ υ) (τ ⊠ φ)
+
+  -- every tree of a forest has one sort: "for all i"
+  pub data _⊢*_∶_ (Γ : Context) : Forest → Sort → Type 0 where
+    every-none : {S : Sort} → Γ ⊢* none ∶ S
+    every-more : {t : Tree} {f : Forest} {S : Sort} → Γ ⊢ t ∶ S → Γ ⊢* f ∶ S → Γ ⊢* t ▹ f ∶ S
+
+-- ---- declarations in order
+-- an index of the context, which is short by the rules
+abbrev pub Index : Context → Tree → Type 0
+Index Γ σ = Γ ⊢ σ ∶ index σ
+
+-- a sort's indices are indices of the context
+abbrev pub Proper : Context → Sort → Type 0
+Proper Γ (index σ) = Index Γ σ
+Proper Γ (basis σ) = Index Γ σ
+Proper Γ scalar = Unit {0}
+Proper Γ (ket σ) = Index Γ σ
+Proper Γ (bra σ) = Index Γ σ
+Proper Γ (operator σ τ) = Index Γ σ × Index Γ τ
+
+-- a type: the sort of a term, and not of an index or a basis
+abbrev pub IsType : Sort → Type 0
+IsType (index σ) = ⊥
+IsType (basis σ) = ⊥
+IsType scalar = Unit {0}
+IsType (ket σ) = Unit {0}
+IsType (bra σ) = Unit {0}
+IsType (operator σ τ) = Unit {0}
+
+-- 004's WF: what is declared is declared properly, and 01: "Names are 0 to 31"
+pub record WellFormed (Γ : Context) : Type 0 where
+  pub types : Γ .types ≤ maxNames
+  pub bases : length (Γ .bases) ≤ maxNames
+  pub variables : length (Γ .variables) ≤ maxNames
+  pub basis-index : (a : ℕ) (σ : Tree) → getElem? (Γ .bases) a ≡ some σ → Index Γ σ
+  pub variable-type : (a : ℕ) (S : Sort) → getElem? (Γ .variables) a ≡ some S → IsType S × Proper Γ S

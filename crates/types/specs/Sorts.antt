@@ -1,0 +1,34 @@
+-- Sorts, and the context that declarations make.
+use mathlib.Core.List.{List}
+use Prim.Native.Nat.{ℕ, _≤_}
+use lib.ListN.{length}
+use Rattle.term.specs.declared.terms.Names.{Names}
+use Rattle.term.specs.Heads.{index-product}
+use Rattle.term.specs.Trees.{Tree, node, none, _▹_, words}
+use Rattle.term.specs.Terms.{maxIndex}
+
+-- What a part can be: an index, and which; a basis, and of which index; or a term with its type. 01: "its kind, which is scalar, ket, bra or operator"
+pub data Sort : Type 0 where
+  index basis : Tree → Sort
+  scalar : Sort
+  ket bra : Tree → Sort
+  operator : Tree → Tree → Sort
+
+-- What is declared: how many type names, the index of each basis name, the type of each variable
+pub record Context : Type 0 where
+  pub types : ℕ
+  pub bases : List Tree
+  pub variables : List Sort
+
+-- how many names of each kind are declared
+abbrev pub countsOf : Context → Names
+countsOf Γ = record { types = Γ .types; bases = length (Γ .bases); variables = length (Γ .variables) }
+
+-- the product of two indices
+infixr 30 _⊠_
+abbrev pub _⊠_ : Tree → Tree → Tree
+σ ⊠ τ = node index-product (σ ▹ τ ▹ none)
+
+-- 01: "A type index has at most 63 words"
+abbrev pub Short : Tree → Type 0
+Short σ = length (words σ) ≤ maxIndex

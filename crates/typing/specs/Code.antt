@@ -1,0 +1,5 @@
+-- How the code does it: nothing here is needed to read the promise of `type_term`.
+pub mod Records
+pub mod Conclude
+pub mod Verdicts
+pub mod Accepting

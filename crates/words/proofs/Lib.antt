@@ -1,0 +1,3 @@
+-- The laws of runs of words that the crates above cite.
+pub mod Runs
+mod Examples

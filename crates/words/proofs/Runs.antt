@@ -1,0 +1,204 @@
+-- Runs of words: what clearing, copying and comparing them come to, one word at a time and as a whole.
+use mathlib.Core.Path.{_≡_, refl, sym, _∙_, ap}
+use mathlib.Core.Logic.{_≢_}
+use mathlib.Core.Bool.{Bool, true, false, cond, _&&_, and-eq-true-iff}
+use mathlib.Core.List.{List, [], _∷_, _++_, append-assoc, append-nil, head-eq-of-cons-eq, tail-eq-of-cons-eq}
+use Prim.Native.Nat.{ℕ, zero, suc, _+_, _-_, _≤_, _<_, min}
+use native.Mathlib.Nat.{zero-add}
+use native.Mathlib.Numerals.{add-one}
+use native.Mathlib.Decide.{decLe}
+use native.Mathlib.Omega.{arith}
+use lib.Dec.{eqb, eqb·suc-suc, eqb·zero-suc}
+use lib.ListN.{length, take, drop, getD, set, length-append, length-take, length-drop, length-set, length-replicate, drop-of-length-le}
+use lib.Seq.{take-all, take-at, take-suc-set, drop-nil, drop-drop, paste-suc}
+use borrow.Author.Tests.{eqb-true, eqb-false, eq-eqb, ne-eqb, le-leb, lt-leb}
+use Rattle.words.specs.Words.{cleared, overlaid, agreeing, sameWords, laid, Added}
+
+-- ---- clearing
+pub length-cleared : (ws : List ℕ) (at : ℕ) → length (cleared ws at) ≡ length ws
+unfolding cleared
+length-cleared ws at = simp (length-append, length-take, length-replicate) (omega arith)
+
+-- a run that ends before the offset has nothing to clear
+pub cleared-end : (ws : List ℕ) (at : ℕ) → length ws ≤ at → cleared ws at ≡ ws
+unfolding cleared
+cleared-end ws at h = let z : length ws - at ≡ 0 = omega arith in rw (z, append-nil, take-all at ws)
+
+-- one word cleared, and the rest to clear behind it
+pub cleared-more : (ws : List ℕ) (i : ℕ) → i < length ws → cleared (set ws i 0) (i + 1) ≡ cleared ws i
+unfolding cleared
+cleared-more ws i h =
+    let n : length ws - i ≡ suc (length ws - suc i) = omega arith in
+    rw (add-one, length-set, n, take-suc-set ws i 0, append-assoc)
+
+-- ---- copying
+pub length-overlaid : (dst src : List ℕ) → length (overlaid dst src) ≡ length dst
+unfolding overlaid
+length-overlaid dst src = simp (length-append, length-take, length-drop) (omega arith)
+
+-- with the number of words that both have: that many of the one, and the rest of the other
+pub overlaid-is : (dst src : List ℕ) (i : ℕ) → i ≡ min (length dst) (length src) → overlaid dst src ≡ take i src ++ drop i dst
+unfolding overlaid
+overlaid-is [] src zero h = drop-nil (length src)
+overlaid-is [] src (suc i) h = absurd (omega arith)
+overlaid-is (d ∷ dst) [] zero h = refl
+overlaid-is (d ∷ dst) [] (suc i) h = absurd (omega arith)
+overlaid-is (d ∷ dst) (s ∷ src) zero h = absurd (omega arith)
+overlaid-is (d ∷ dst) (s ∷ src) (suc i) h = cc (overlaid-is dst src i (omega arith))
+
+-- one word more, copied over the first that is not yet
+pub copied-more : (dst src : List ℕ) (i : ℕ) → i < length dst → i < length src → set (take i src ++ drop i dst) i (getD src i 0) ≡ take (i + 1) src ++ drop (i + 1) dst
+copied-more dst src i h k = rw add-one (simp zero-add at (paste-suc dst 0 src i 0 (omega arith) k))
+
+-- ---- comparing
+-- the ways in which two runs agree for n words and no further
+pub data Agreed : List ℕ → List ℕ → ℕ → Type 0 where
+  left-ends : {bs : List ℕ} → Agreed [] bs 0
+  right-ends : {a : ℕ} {as′ : List ℕ} → Agreed (a ∷ as′) [] 0
+  differ : {a b : ℕ} {as′ bs : List ℕ} → (a ≡ b → ⊥) → Agreed (a ∷ as′) (b ∷ bs) 0
+  agree : {a b : ℕ} {as′ bs : List ℕ} {n : ℕ} → a ≡ b → Agreed as′ bs n → Agreed (a ∷ as′) (b ∷ bs) (suc n)
+
+agreed-more : {a b : ℕ} {as′ bs : List ℕ} {n : ℕ} (t : Bool) → eqb a b ≡ t → Agreed as′ bs n → Agreed (a ∷ as′) (b ∷ bs) (cond t (suc n) 0)
+agreed-more true e r = agree (eqb-true _ _ e) r
+agreed-more false e r = differ (eqb-false _ _ e)
+
+pub agreed : (as′ bs : List ℕ) → Agreed as′ bs (agreeing as′ bs)
+unfolding agreeing
+agreed [] bs = left-ends
+agreed (a ∷ as′) [] = right-ends
+agreed (a ∷ as′) (b ∷ bs) = agreed-more (eqb a b) refl (agreed as′ bs)
+
+agreed-take : {as′ bs : List ℕ} {n : ℕ} → Agreed as′ bs n → take n as′ ≡ take n bs
+agreed-take left-ends = refl
+agreed-take right-ends = refl
+agreed-take (differ h) = refl
+agreed-take (agree e r) = rw (e, agreed-take r)
+
+agreed-differ : {as′ bs : List ℕ} {n : ℕ} → Agreed as′ bs n → n < length as′ → n < length bs → getD as′ n 0 ≡ getD bs n 0 → ⊥
+agreed-differ left-ends p q e = omega arith
+agreed-differ right-ends p q e = omega arith
+agreed-differ (differ h) p q e = h e
+agreed-differ (agree h r) p q e = agreed-differ r (omega arith) (omega arith) e
+
+agreed-within : {as′ bs : List ℕ} {n : ℕ} → Agreed as′ bs n → (n ≤ length as′) × (n ≤ length bs)
+agreed-within left-ends = omega arith
+agreed-within right-ends = omega arith
+agreed-within (differ h) = omega arith
+agreed-within (agree e r) = omega (arith, agreed-within r)
+
+-- the words that agree are the same words
+pub agreeing-take : (as′ bs : List ℕ) → take (agreeing as′ bs) as′ ≡ take (agreeing as′ bs) bs
+agreeing-take as′ bs = agreed-take (agreed as′ bs)
+
+-- where neither run ends, the next words differ
+pub agreeing-differ : (as′ bs : List ℕ) → agreeing as′ bs < length as′ → agreeing as′ bs < length bs → getD as′ (agreeing as′ bs) 0 ≡ getD bs (agreeing as′ bs) 0 → ⊥
+agreeing-differ as′ bs = agreed-differ (agreed as′ bs)
+
+pub agreeing-left : (as′ bs : List ℕ) → agreeing as′ bs ≤ length as′
+agreeing-left as′ bs = agreed-within (agreed as′ bs) .0
+
+pub agreeing-right : (as′ bs : List ℕ) → agreeing as′ bs ≤ length bs
+agreeing-right as′ bs = agreed-within (agreed as′ bs) .1
+
+-- the other way round: only one number is as these laws say
+pub agreeing-is : (as′ bs : List ℕ) (i : ℕ) → i ≤ length as′ → i ≤ length bs → take i as′ ≡ take i bs → (i < length as′ → i < length bs → getD as′ i 0 ≡ getD bs i 0 → ⊥) → agreeing as′ bs ≡ i
+unfolding agreeing
+agreeing-is [] bs zero p q e d = refl
+agreeing-is (a ∷ as′) [] zero p q e d = refl
+agreeing-is (a ∷ as′) (b ∷ bs) zero p q e d = rw (ne-eqb a b (d (omega arith) (omega arith)))
+agreeing-is [] bs (suc i) p q e d = omega arith
+agreeing-is (a ∷ as′) [] (suc i) p q e d = omega arith
+agreeing-is (a ∷ as′) (b ∷ bs) (suc i) p q e d =
+    let r = agreeing-is as′ bs i (omega arith) (omega arith) (tail-eq-of-cons-eq e) (λ p′ q′. d (omega arith) (omega arith)) in
+    rw (eq-eqb a b (head-eq-of-cons-eq e), r)
+
+pub agreeing-self : (as′ : List ℕ) → agreeing as′ as′ ≡ length as′
+agreeing-self as′ = agreeing-is as′ as′ (length as′) (omega arith) (omega arith) refl (λ p. omega arith)
+
+-- ---- sameness
+pub same-words : (ws : List ℕ) → sameWords ws ws ≡ true
+unfolding sameWords
+same-words [] = refl
+same-words (w ∷ ws) = rw (eq-eqb w w refl) (same-words ws)
+
+pub same-words-eq : (vs ws : List ℕ) → sameWords vs ws ≡ true → vs ≡ ws
+unfolding sameWords
+same-words-eq [] [] e = refl
+same-words-eq [] (w ∷ ws) e = cc
+same-words-eq (v ∷ vs) [] e = cc
+same-words-eq (v ∷ vs) (w ∷ ws) e =
+    let r = and-eq-true-iff (eqb v w) (sameWords vs ws) .0 e in
+    let h = eqb-true v w (r .0) in
+    let t = same-words-eq vs ws (r .1) in cc
+
+-- two runs of one length are the same where all their words agree
+pub same-agreeing : (xs ys : List ℕ) → length xs ≡ length ys → sameWords xs ys ≡ eqb (agreeing xs ys) (length xs)
+unfolding sameWords agreeing
+same-agreeing [] [] e = refl
+same-agreeing [] (y ∷ ys) e = absurd (omega arith)
+same-agreeing (x ∷ xs) [] e = absurd (omega arith)
+same-agreeing (x ∷ xs) (y ∷ ys) e = rw (same-agreeing xs ys (omega arith)) (go (eqb x y))
+  where
+    go : (b : Bool) → (b && eqb (agreeing xs ys) (length xs)) ≡ eqb (cond b (suc (agreeing xs ys)) 0) (suc (length xs))
+    go true = sym (eqb·suc-suc (agreeing xs ys) (length xs))
+    go false = sym (eqb·zero-suc (length xs))
+
+-- runs of other lengths are not the same
+pub same-lengths : (xs ys : List ℕ) → length xs ≢ length ys → sameWords xs ys ≡ false
+unfolding sameWords
+same-lengths [] [] h = absurd (h refl)
+same-lengths [] (y ∷ ys) h = refl
+same-lengths (x ∷ xs) [] h = refl
+same-lengths (x ∷ xs) (y ∷ ys) h = rw (same-lengths xs ys (λ e. h (ap suc e))) (and-false (eqb x y))
+  where
+    and-false : (b : Bool) → (b && false) ≡ false
+    and-false true = refl
+    and-false false = refl
+
+-- ---- laying a run over another from an offset on
+-- nothing where it does not fit
+pub laid-out : (out : List ℕ) (at : ℕ) (src : List ℕ) → length out < at + length src → laid out at src ≡ out
+unfolding laid
+laid-out out at src h = rw (lt-leb (at + length src) (length out) h)
+
+pub laid-in : (out : List ℕ) (at : ℕ) (src : List ℕ) → at + length src ≤ length out → laid out at src ≡ take at out ++ (src ++ drop (at + length src) out)
+unfolding laid
+laid-in out at src h = rw (le-leb (at + length src) (length out) h)
+
+-- as the code does it: copied over the n words from there on, which are all
+pub laid-copied : (out : List ℕ) (at : ℕ) (src ys : List ℕ) (n : ℕ) → at + length src ≤ length out → n ≡ length out - at → ys ≡ overlaid (take n (drop at out)) src
+    → take at out ++ (ys ++ drop n (drop at out)) ≡ laid out at src
+unfolding overlaid
+laid-copied out at src ys n h k e =
+    let l = length-drop at out in
+    let z : length (drop at out) ≤ n = omega arith in
+    rw (laid-in out at src h, e, take-all n (drop at out) (omega arith), take-all (length (drop at out)) src (omega arith), drop-of-length-le (drop at out) z, append-nil, drop-drop (length src) at out)
+
+-- ---- appending
+-- a run behind a run
+min-min : (a b n : ℕ) → min (min a n + b) n ≡ min (a + b) n
+min-min a b n = omega arith
+
+pub added-both : {out : List ℕ} {at : ℕ} {xs mid : List ℕ} {m : ℕ} {ys out′ : List ℕ} {end : ℕ} → Added out at xs mid m → Added mid m ys out′ end → Added out at (xs ++ ys) out′ end
+added-both {out} {at} {xs} {mid} {m} {ys} {out′} {end} p q =
+    record {
+      size = q .size ∙ p .size;
+      end = rw (q .end, p .end, p .size, length-append, min-min) (omega arith);
+      front = λ h.
+          let l = length-append xs ys in
+          let e : m ≡ at + length xs = omega (arith, p .end) in
+          let z : at + length (xs ++ ys) ≡ m + length ys = omega arith in
+          rw z (q .front (omega (arith, p .size)) ∙ rw (e, p .front (omega arith)) (append-assoc (take at out) xs ys));
+    }
+
+pub added : (out : List ℕ) (at : ℕ) (src out′ : List ℕ) (e : ℕ) → e ≡ min (at + length src) (length out + 1) → out′ ≡ laid out at src → Added out at src out′ e
+added out at src out′ e h o = elim (decLe (at + length src) (length out)) [
+  | yes k ↦
+      let w = laid-in out at src k in
+      record {
+        size = rw (o, w) (simp (length-append, length-take, length-drop) (omega arith));
+        end = h;
+        front = λ _. rw (o, w, ← append-assoc) (take-at (take at out ++ src) (drop (at + length src) out) (at + length src) (simp (length-append, length-take) (omega arith)));
+      }
+  | no k ↦ record { size = rw (o, laid-out out at src (omega arith)); end = h; front = λ x. absurd (k x) }
+]

@@ -1,0 +1,2 @@
+-- Runs of words.
+pub mod Words

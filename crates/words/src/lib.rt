@@ -1,0 +1,67 @@
+// Runs of words as such: clearing, copying and comparing them.
+ghost use mathlib.Core.Path.{_≡_};
+ghost use Prim.Native.Nat.{_+_, min};
+ghost use lib.ListN.{length};
+ghost use Rattle.words.specs.Words.{cleared, overlaid, agreeing, sameWords, laid};
+
+// Zeros from the offset `at` on; the words below it stay.
+pub fn clear_from(ws: &mut [u16], at: usize)
+    ensures { λ _. ⌜ now (ws .exit) ≡ cleared (now (ws .entry)) at ⌝ }
+{
+    let mut i = at;
+    while i < ws.len() {
+        ws[i] = 0;
+        i += 1;
+    }
+}
+
+// Copies `src` over the front of `dst`, as many words as both have, and says how many.
+pub fn copy_words(dst: &mut [u16], src: &[u16]) -> usize
+    ensures { λ r. ⌜ (r ≡ min (length (now (dst .entry))) (length (now (src .entry)))) × (now (dst .exit) ≡ overlaid (now (dst .entry)) (now (src .entry))) ⌝ }
+{
+    let mut i = 0;
+    while i < dst.len() && i < src.len() {
+        dst[i] = src[i];
+        i += 1;
+    }
+    i
+}
+
+// The first offset at which two runs differ; the shorter's length where it is a prefix of the other.
+pub fn first_difference(a: &[u16], b: &[u16]) -> usize
+    ensures { λ r. ⌜ r ≡ agreeing (now (a .entry)) (now (b .entry)) ⌝ }
+{
+    let mut i = 0;
+    while i < a.len() && i < b.len() {
+        if a[i] != b[i] {
+            return i;
+        }
+        i += 1;
+    }
+    i
+}
+
+// Whether two runs are the same word by word.
+pub fn same(a: &[u16], b: &[u16]) -> bool
+    ensures { λ r. ⌜ r ≡ sameWords (now (a .entry)) (now (b .entry)) ⌝ }
+{
+    if a.len() != b.len() {
+        return false;
+    }
+    first_difference(a, b) == a.len()
+}
+
+// Lays `src` over `out` from `at` on and answers the end, where there is room for all of it; else it changes nothing and answers one more than the
+// length of `out`, which is no end.
+pub fn append(out: &mut [u16], at: usize, src: &[u16]) -> usize
+    ensures { λ r. ⌜ (r ≡ min (at + length (now (src .entry))) (length (now (out .entry)) + 1)) × (now (out .exit) ≡ laid (now (out .entry)) at (now (src .entry))) ⌝ }
+{
+    if out.len() < at {
+        return out.len() + 1;
+    }
+    if out.len() - at < src.len() {
+        return out.len() + 1;
+    }
+    copy_words(&mut out[at..], src);
+    at + src.len()
+}
