@@ -1,6 +1,6 @@
 #!/usr/bin/env bash
 # All tests, from nothing: the checker's, then every proof, every edit that must be refused, every program against its stored output, then the
-# proved typing against the checker's on random terms.
+# proved typing and the proved step against the checker's on random cases.
 set -euo pipefail
 cd "$(dirname "$0")"
 (cd checker && cargo test --release --offline)
@@ -8,5 +8,6 @@ rt fmt --check
 log=$(mktemp)
 trap 'rm "$log"' EXIT
 rt ci 2>&1 | tee "$log"
-checker/compare-typing.sh 1
+checker/compare.sh typing 1 10000
+checker/compare.sh step 1 10000
 tail -n 1 "$log"

@@ -48,7 +48,7 @@ fn replay_text(input: &[u8]) -> String {
 
 fn typing_text(input: &[u8]) -> Result<String, String> {
     let case = Case::read(input)?;
-    let answer = typing(&case.declared, &case.slice, case.length);
+    let answer = typing(&case.declared, &case.slice(), case.length);
     let kind = match answer.found.kind {
         Kind::Scalar => "scalar",
         Kind::Ket(_) => "ket",
@@ -67,35 +67,74 @@ fn typing_text(input: &[u8]) -> Result<String, String> {
 }
 
 fn step_text(input: &[u8]) -> Result<String, String> {
-    let mut case = Case::read(input)?;
+    let case = Case::read(input)?;
     let step = case.step.ok_or("a step line is wanted")?;
-    let answer = single(&case.declared, &mut case.slice, case.length, step);
+    let mut slice = case.slice();
+    let answer = single(&case.declared, &mut slice, case.length, step);
     Ok(format!(
         "code={}\nstep={}\nat={}\nlength={}\nwords={}\n",
         answer.code,
         answer.step,
         answer.at,
         answer.length,
-        tokens(&case.slice[..answer.length]),
+        tokens(used(&slice)),
     ))
 }
 
+/// The words of a slice up to the last that is not zero.
+fn used(slice: &[u16]) -> &[u16] {
+    let end = slice.iter().rposition(|&word| word != 0).map_or(0, |last| last + 1);
+    &slice[..end]
+}
+
+/// The most words of a case's slice: more than a work slice has, so that one
+/// too long can be lent.
+const LARGEST: usize = 5_000;
+
 /// A typing or step case: declarations, a slice, a length, perhaps a step.
-pub(crate) struct Case {
-    pub(crate) declared: Declarations,
-    pub(crate) slice: Vec<u16>,
-    pub(crate) length: usize,
-    step: Option<Step>,
+#[derive(Clone, PartialEq, Eq, Debug)]
+pub struct Case {
+    pub declared: Declarations,
+    /// The words that the slice begins with.
+    pub words: Vec<u16>,
+    /// How many words the slice has.
+    pub size: usize,
+    /// The word behind the first ones, up to the slice's end.
+    pub behind: u16,
+    /// The length that is told.
+    pub length: usize,
+    pub step: Option<Step>,
+}
+
+impl Default for Case {
+    fn default() -> Self {
+        Case {
+            declared: Declarations::default(),
+            words: Vec::new(),
+            size: WORDS,
+            behind: 0,
+            length: 0,
+            step: None,
+        }
+    }
 }
 
 impl Case {
-    pub(crate) fn read(input: &[u8]) -> Result<Case, String> {
-        let mut case = Case {
-            declared: Declarations::default(),
-            slice: vec![0; WORDS],
-            length: 0,
-            step: None,
-        };
+    /// Gives the case other words, all of them told.
+    pub fn hold(&mut self, words: Vec<u16>) {
+        self.length = words.len();
+        self.words = words;
+    }
+
+    /// The slice that is lent. Words that it has no room for are dropped.
+    pub fn slice(&self) -> Vec<u16> {
+        let mut slice = self.words.clone();
+        slice.resize(self.size, self.behind);
+        slice
+    }
+
+    pub fn read(input: &[u8]) -> Result<Case, String> {
+        let mut case = Case::default();
         let lines = input.strip_suffix(b"\n").ok_or("the last line is unfinished")?;
         for (k, line) in lines.split(|&byte| byte == b'\n').enumerate() {
             case.line(line).ok_or_else(|| format!("line {} is not of the form", k + 1))?;
@@ -110,12 +149,15 @@ impl Case {
             b"types" => self.declared.types = number(value)?,
             b"basis" => self.declared.bases.push(words(value)?),
             b"var" => self.declared.variables.push(variable(value)?),
-            b"term" => {
-                let term = words(value)?;
-                self.slice.get_mut(..term.len())?.copy_from_slice(&term);
-                self.length = term.len();
-            }
+            b"term" => self.hold(words(value)?),
             b"length" => self.length = number(value)?,
+            b"slice" => self.size = number(value).filter(|&size| size <= LARGEST)?,
+            b"behind" => {
+                let [word] = words(value)?[..] else {
+                    return None;
+                };
+                self.behind = word;
+            }
             b"step" => self.step = Some(sideless_step(value)?),
             _ => return None,
         }

@@ -5,7 +5,9 @@ mod cases;
 mod damage;
 mod instances;
 mod layers;
+mod misses;
 mod rng;
+mod steps;
 mod terms;
 mod walks;
 
@@ -18,6 +20,7 @@ pub use walks::Derivation;
 use crate::decl::{Declarations, Letter, Variable};
 use crate::matrix::{dimension, shape, Choice, Gauss, Matrix};
 use crate::words::{word, TYPE};
+use terms::product;
 
 /// Declarations, and the numbers from which terms over them are made.
 #[derive(Clone, Debug)]
@@ -35,7 +38,7 @@ impl Gen {
     }
 
     /// New declarations: a few types; bases and variables for each of them and
-    /// for some products.
+    /// for some products, so that a basis of a product need not be a pair.
     pub fn declare(&mut self) {
         let types = self.rng.within(1, 3);
         self.declared = Declarations { types, ..Declarations::default() };
@@ -54,6 +57,9 @@ impl Gen {
             for columns in &atoms {
                 let words = [&index[..], columns].concat();
                 variables.push(Variable { letter: Letter::Operator, words });
+                if self.rng.once_in(2) {
+                    bases.push(product(index, columns));
+                }
             }
         }
         for _ in 0..self.rng.within(0, 3) {

@@ -14,8 +14,9 @@ checker replay < FILE               the answer to a file
 checker typing < FILE               the answer to a typing case
 checker step < FILE                 the answer to a step case
 checker vectors DIR                 runs the cases under a folder
-checker numbers DIR IN OUT          writes a folder's typing cases and stored answers as numbers
 checker gen SEED COUNT KIND DIR     writes cases; KIND is accepted, damaged, typing or step
+checker numbers KIND DIR IN OUT     writes a folder's cases and stored answers as numbers;
+                                    KIND is typing or step
 ";
 
 fn main() -> ExitCode {
@@ -26,8 +27,10 @@ fn main() -> ExitCode {
         ["typing"] => answer(Sort::Typing),
         ["step"] => answer(Sort::Step),
         ["vectors", folder] => vectors(Path::new(folder)),
-        ["numbers", folder, input, output] => numbered(Path::new(folder), input, output),
         ["gen", seed, count, kind, folder] => generate(seed, count, kind, Path::new(folder)),
+        ["numbers", kind, folder, input, output] => {
+            numbered(kind, Path::new(folder), input, output)
+        }
         _ => Err(USAGE.to_string()),
     };
     match done {
@@ -63,14 +66,6 @@ fn vectors(folder: &Path) -> Result<(), String> {
     Err(format!("{}\n{} of {count} cases differ", wrong.join("\n"), wrong.len()))
 }
 
-/// Writes a folder's typing cases to one file and their stored answers to
-/// another.
-fn numbered(folder: &Path, input: &str, output: &str) -> Result<(), String> {
-    let (cases, answers) = numbers::typing(folder)?;
-    fs::write(input, cases).map_err(told)?;
-    fs::write(output, answers).map_err(told)
-}
-
 /// Writes cases with this checker's answers beside them.
 fn generate(seed: &str, count: &str, kind: &str, folder: &Path) -> Result<(), String> {
     let seed: u64 = seed.parse().map_err(|_| "SEED is a number".to_string())?;
@@ -99,4 +94,15 @@ fn generate(seed: &str, count: &str, kind: &str, folder: &Path) -> Result<(), St
         fs::write(&path, input).map_err(told)?;
     }
     Ok(())
+}
+
+/// Writes a folder's cases to one file and their stored answers to another.
+fn numbered(kind: &str, folder: &Path, input: &str, output: &str) -> Result<(), String> {
+    let (cases, answers) = match kind {
+        "typing" => numbers::typing(folder)?,
+        "step" => numbers::step(folder)?,
+        _ => return Err(USAGE.to_string()),
+    };
+    fs::write(input, cases).map_err(told)?;
+    fs::write(output, answers).map_err(told)
 }

@@ -1,33 +1,56 @@
-//! Typing cases as lines of decimal numbers, for a program that reads no text.
+//! Cases as lines of decimal numbers, for programs that read no text.
 //!
-//! A case is the number of types; the number of bases and of each the length
-//! and words of its index; the number of variables and of each its kind (0
-//! scalar, 1 ket, 2 bra, 3 operator) and the lengths and words of two indices;
-//! the length that is told; the number of words and the words. An answer is
-//! code, side, step, at, length, depth, kind, and the lengths and words of the
-//! index of the rows and that of the columns. It is made of the stored `.out`
-//! alone: this checker does not type the case.
+//! A case begins with its declarations, the length that is told and the words
+//! that its slice begins with: the number of types; the number of bases and of
+//! each the length and words of its index; the number of variables and of each
+//! its kind (0 scalar, 1 ket, 2 bra, 3 operator) and the lengths and words of
+//! two indices; the length; the number of words and the words. A typing case
+//! ends there. A step case has the number of words of the whole slice, the word
+//! behind the first ones, the rule, the place, i and j.
+//!
+//! An answer begins with code, side, step, at, length. Typing adds depth, kind,
+//! and the lengths and words of the index of the rows and that of the columns;
+//! a step the number of words of the slice up to the last that is not zero, and
+//! these. Answers are made of the stored `.out` alone: this checker neither
+//! types the case nor takes its step.
 
-use crate::case::{inputs, Case};
-use crate::decl::{Letter, Variable};
+use crate::case::{inputs, Case, Sort};
+use crate::decl::{Declarations, Letter, Variable};
 use crate::file::{number, words};
-use crate::words::part;
+use crate::words::{part, WORDS};
 use std::fs;
 use std::path::Path;
+use std::str::Lines;
 
 /// The typing cases of a folder by name, and their stored answers.
 pub fn typing(folder: &Path) -> Result<(String, String), String> {
+    lines(folder, Sort::Typing, typing_case, typing_answer)
+}
+
+/// The step cases of a folder by name, and their stored answers.
+pub fn step(folder: &Path) -> Result<(String, String), String> {
+    lines(folder, Sort::Step, step_case, step_answer)
+}
+
+fn lines(
+    folder: &Path,
+    sort: Sort,
+    of_case: fn(&Case) -> Option<Vec<usize>>,
+    of_answer: fn(Stored) -> Option<Vec<usize>>,
+) -> Result<(String, String), String> {
     let (mut cases, mut answers) = (String::new(), String::new());
-    for input in inputs(&folder.join("typing")).map_err(|error| error.to_string())? {
+    for input in inputs(&folder.join(sort.folder())).map_err(|error| error.to_string())? {
         let told = |error: String| format!("{}: {error}", input.display());
         let bytes = fs::read(&input).map_err(|error| told(error.to_string()))?;
         let stored = fs::read_to_string(input.with_extension("out"))
             .map_err(|error| told(error.to_string()))?;
-        cases += &line(&case_numbers(&bytes).map_err(told)?);
-        answers += &line(&answer_numbers(&stored).ok_or_else(|| told("no answer".into()))?);
+        let case = Case::read(&bytes).map_err(told)?;
+        cases += &line(&of_case(&case).ok_or_else(|| told("not as numbers".into()))?);
+        let answer = of_answer(Stored(stored.lines()));
+        answers += &line(&answer.ok_or_else(|| told("no answer".into()))?);
     }
     if cases.is_empty() {
-        return Err(format!("{}: no typing cases", folder.display()));
+        return Err(format!("{}: no {} cases", folder.display(), sort.folder()));
     }
     Ok((cases, answers))
 }
@@ -43,24 +66,41 @@ fn push(numbers: &mut Vec<usize>, words: &[u16]) {
     numbers.extend(words.iter().map(|&word| usize::from(word)));
 }
 
-fn case_numbers(input: &[u8]) -> Result<Vec<usize>, String> {
-    let case = Case::read(input)?;
-    let mut out = vec![case.declared.types, case.declared.bases.len()];
-    for index in &case.declared.bases {
+/// What the cases have in common.
+fn begun(case: &Case) -> Vec<usize> {
+    let mut out = declared(&case.declared);
+    out.push(case.length);
+    push(&mut out, &case.words);
+    out
+}
+
+/// Nothing where the slice is not the one that the program lends, 4,096 words
+/// with zeros behind the first ones.
+fn typing_case(case: &Case) -> Option<Vec<usize>> {
+    (case.size == WORDS && case.behind == 0).then(|| begun(case))
+}
+
+fn step_case(case: &Case) -> Option<Vec<usize>> {
+    let step = case.step?;
+    let mut out = begun(case);
+    out.extend([case.size, case.behind.into()]);
+    out.extend([step.rule, step.place, step.i, step.j].map(usize::from));
+    Some(out)
+}
+
+fn declared(declared: &Declarations) -> Vec<usize> {
+    let mut out = vec![declared.types, declared.bases.len()];
+    for index in &declared.bases {
         push(&mut out, index);
     }
-    out.push(case.declared.variables.len());
-    for variable in &case.declared.variables {
+    out.push(declared.variables.len());
+    for variable in &declared.variables {
         let (first, second) = indices(variable);
         out.push(kind(variable.letter));
         push(&mut out, first);
         push(&mut out, second);
     }
-    out.push(case.length);
-    // The words behind the last that is not zero are zeros either way.
-    let end = case.slice.iter().rposition(|&word| word != 0).map_or(0, |last| last + 1);
-    push(&mut out, &case.slice[..end]);
-    Ok(out)
+    out
 }
 
 fn kind(letter: Letter) -> usize {
@@ -82,17 +122,15 @@ fn indices(variable: &Variable) -> (&[u16], &[u16]) {
     }
 }
 
-/// The numbers of a stored answer. A bra's index is that of its columns.
-fn answer_numbers(stored: &str) -> Option<Vec<usize>> {
-    let mut lines = stored.lines();
-    let mut value = |key: &str| lines.next()?.strip_prefix(key)?.strip_prefix('=');
-    let code = number(value("code")?.as_bytes())?;
-    let at = number(value("at")?.as_bytes())?;
-    let length = number(value("length")?.as_bytes())?;
-    let depth = number(value("depth")?.as_bytes())?;
-    let name = value("kind")?;
+/// A bra's index is that of its columns.
+fn typing_answer(mut stored: Stored) -> Option<Vec<usize>> {
+    let code = stored.number("code")?;
+    let at = stored.number("at")?;
+    let length = stored.number("length")?;
+    let depth = stored.number("depth")?;
+    let name = stored.value("kind")?;
     let kind = ["scalar", "ket", "bra", "operator"].iter().position(|&kind| kind == name)?;
-    let (first, second) = (index(value("first")?)?, index(value("second")?)?);
+    let (first, second) = (stored.words("first")?, stored.words("second")?);
     let (rows, columns) = if name == "bra" { (second, first) } else { (first, second) };
     let mut out = vec![code, 0, 0, at, length, depth, kind];
     push(&mut out, &rows);
@@ -100,10 +138,33 @@ fn answer_numbers(stored: &str) -> Option<Vec<usize>> {
     Some(out)
 }
 
-/// The words of an index; none where it is absent.
-fn index(tokens: &str) -> Option<Vec<u16>> {
-    if tokens.is_empty() {
-        return Some(Vec::new());
+fn step_answer(mut stored: Stored) -> Option<Vec<usize>> {
+    let code = stored.number("code")?;
+    let step = stored.number("step")?;
+    let at = stored.number("at")?;
+    let length = stored.number("length")?;
+    let mut out = vec![code, 0, step, at, length];
+    push(&mut out, &stored.words("words")?);
+    Some(out)
+}
+
+/// The lines of a stored answer that were not read yet.
+struct Stored<'s>(Lines<'s>);
+
+impl<'s> Stored<'s> {
+    fn value(&mut self, key: &str) -> Option<&'s str> {
+        self.0.next()?.strip_prefix(key)?.strip_prefix('=')
     }
-    words(tokens.as_bytes())
+
+    fn number(&mut self, key: &str) -> Option<usize> {
+        number(self.value(key)?.as_bytes())
+    }
+
+    /// No tokens are no words.
+    fn words(&mut self, key: &str) -> Option<Vec<u16>> {
+        match self.value(key)? {
+            "" => Some(Vec::new()),
+            tokens => words(tokens.as_bytes()),
+        }
+    }
 }

@@ -12,9 +12,9 @@ fn all_stored_cases() {
     assert!(count > 100, "{count} cases");
 }
 
-#[test]
-fn every_code_has_a_case() {
-    let folder = Path::new(env!("CARGO_MANIFEST_DIR")).join("vectors/replay");
+/// The codes of a folder's stored answers.
+fn stored_codes(sort: case::Sort) -> Vec<u8> {
+    let folder = Path::new(env!("CARGO_MANIFEST_DIR")).join("vectors").join(sort.folder());
     let mut codes = Vec::new();
     for entry in fs::read_dir(folder).unwrap() {
         let path = entry.unwrap().path();
@@ -26,8 +26,15 @@ fn every_code_has_a_case() {
     }
     codes.sort();
     codes.dedup();
-    // 1 is tested by a call.
-    assert_eq!(codes, [0, 2, 3, 4, 5, 6, 7, 8, 9, 10, 11, 12, 20, 21, 22, 23, 30]);
+    codes
+}
+
+#[test]
+fn every_code_has_a_case() {
+    // 1 of a replay is tested by a call.
+    let codes = [0, 2, 3, 4, 5, 6, 7, 8, 9, 10, 11, 12, 20, 21, 22, 23, 30];
+    assert_eq!(stored_codes(case::Sort::Replay), codes);
+    assert_eq!(stored_codes(case::Sort::Step), [0, 1, 7, 8, 10, 11, 20, 21, 22, 23]);
 }
 
 #[test]
@@ -44,13 +51,17 @@ fn every_case_has_its_row() {
     }
 }
 
-#[test]
-fn the_typing_program_is_run_on_the_stored_cases() {
-    let root = Path::new(env!("CARGO_MANIFEST_DIR"));
-    let (cases, answers) = numbers::typing(&root.join("vectors")).expect("the cases as numbers");
-    let stored = |name: &str| {
-        fs::read_to_string(root.join("../crates/typing_cases").join(name)).expect(name)
-    };
+/// Holds what a program is run on to the stored cases.
+fn hold(program: &str, (cases, answers): (String, String)) {
+    let folder = Path::new(env!("CARGO_MANIFEST_DIR")).join("../crates").join(program);
+    let stored = |name: &str| fs::read_to_string(folder.join(name)).expect(name);
     assert_eq!(cases, stored("stdin"), "see `checker numbers` in README.md");
     assert_eq!(answers, stored("stdout"), "see `checker numbers` in README.md");
+}
+
+#[test]
+fn the_programs_are_run_on_the_stored_cases() {
+    let folder = Path::new(env!("CARGO_MANIFEST_DIR")).join("vectors");
+    hold("typing_cases", numbers::typing(&folder).expect("the cases as numbers"));
+    hold("step_cases", numbers::step(&folder).expect("the cases as numbers"));
 }

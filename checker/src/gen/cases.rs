@@ -1,10 +1,30 @@
-//! Cases for typing and for the single step, good and bad.
+//! Cases as they are stored, those for typing, and what can be wrong with a
+//! case before its step is looked at.
 
 use super::walks::{declared_text, step_text};
 use super::Gen;
-use crate::rules::RULES;
-use crate::step::Step;
+use crate::case::Case;
+use crate::decl::{Letter, Variable};
 use crate::words::*;
+
+/// A case as `Case::read` reads it; what need not be said is left out.
+pub(super) fn text(case: &Case) -> Vec<u8> {
+    let mut text = declared_text(&case.declared);
+    text += &format!("term={}\n", tokens(&case.words));
+    if case.length != case.words.len() {
+        text += &format!("length={}\n", case.length);
+    }
+    if case.size != WORDS {
+        text += &format!("slice={}\n", case.size);
+    }
+    if case.behind != 0 {
+        text += &format!("behind={}\n", token(case.behind));
+    }
+    if let Some(step) = case.step {
+        text += &format!("step={}\n", step_text(step));
+    }
+    text.into_bytes()
+}
 
 impl Gen {
     /// A typing case: often a good term, else one with a part of another sort
@@ -17,87 +37,52 @@ impl Gen {
         if self.rng.once_in(8) {
             term = self.deepen(&want, &term).0;
         }
-        let mut declared = self.declared.clone();
-        let mut length = None;
+        let mut case = self.case(term);
         match self.rng.below(8) {
-            0..4 => term = self.misfit(&term),
-            4 => {
-                let place = self.rng.below(term.len());
-                term[place] = self.any_word();
-            }
-            5 if self.rng.once_in(2) => length = Some(self.rng.below(term.len() + 2)),
-            5 => {
-                declared.bases.push(vec![*self.rng.pick(&[word(TYPE, 31), word(PRODUCT, 0)])]);
-            }
+            0..4 => self.mistype(&mut case),
+            4 => self.misspell(&mut case),
+            5 if self.rng.once_in(2) => case.length = self.rng.below(case.words.len() + 2),
+            5 => self.misdeclare(&mut case),
             _ => {}
         }
-        let mut text = declared_text(&declared);
-        text += &format!("term={}\n", tokens(&term));
-        if let Some(length) = length {
-            text += &format!("length={length}\n");
-        }
-        text.into_bytes()
+        text(&case)
     }
 
-    /// A step case: an instance inside a larger term, sometimes near a limit,
-    /// sometimes with another rule, place or index.
-    pub fn step_case(&mut self) -> Vec<u8> {
-        self.declare();
-        let (words, mut step) = match self.rng.below(24) {
-            0 => self.broad(),
-            1 => self.long(),
-            kind => self.inside(kind < 6),
-        };
-        match self.rng.below(8) {
-            0 => step.rule = self.rng.below(180) as u16,
-            1 => step.place = self.rng.below(words.len() + 2) as u16,
-            2 => step.i = self.rng.below(5) as u16,
-            3 => step.j = self.rng.below(5) as u16,
-            _ => {}
-        }
-        let mut text = declared_text(&self.declared);
-        text += &format!("term={}\nstep={}\n", tokens(&words), step_text(step));
-        text.into_bytes()
+    /// A case of these words under these declarations.
+    pub(super) fn case(&self, words: Vec<u16>) -> Case {
+        let mut case = Case { declared: self.declared.clone(), ..Case::default() };
+        case.hold(words);
+        case
     }
 
-    /// An instance of any rule inside a larger term, perhaps a deep one.
-    fn inside(&mut self, deep: bool) -> (Vec<u16>, Step) {
-        let rule = self.rng.pick(&RULES);
-        let Some(instance) = self.instance(rule) else {
-            return self.inside(deep);
-        };
-        let (want, mut words, mut place) = self.wrap(&instance.want, &instance.words);
-        if deep {
-            let above;
-            (words, above) = self.deepen(&want, &words);
-            place += above;
-        }
-        let step = Step { rule: rule.number, place: place as u16, i: instance.i, j: instance.j };
-        (words, step)
+    /// A part of another sort or size.
+    pub(super) fn mistype(&mut self, case: &mut Case) {
+        let words = self.misfit(&case.words);
+        case.hold(words);
     }
 
-    /// A sum with a sum in it that together have about 255 children.
-    fn broad(&mut self) -> (Vec<u16>, Step) {
-        let (n, m) = (self.rng.within(250, 255), self.rng.within(1, 7));
-        let i = self.rng.below(n);
-        let mut words = vec![word(ADDS, n as u8)];
-        words.extend(vec![word(ZERO, 0); i]);
-        words.push(word(ADDS, m as u8));
-        words.extend(vec![word(ONE, 0); m]);
-        words.extend(vec![word(ZERO, 0); n - 1 - i]);
-        (words, Step { rule: 1, place: 0, i: i as u16, j: 0 })
+    /// A word changed.
+    pub(super) fn misspell(&mut self, case: &mut Case) {
+        let place = self.rng.below(case.words.len());
+        case.words[place] = self.any_word();
     }
 
-    /// A conjugate of a sum that spreads to about 4,096 words.
-    fn long(&mut self) -> (Vec<u16>, Step) {
-        let longer = self.rng.within(13, 17);
-        let mut words = vec![word(CONJ, 0), word(ADDS, 255)];
-        for k in 0..255 {
-            let m = if k < longer { 15 } else { 14 };
-            words.push(word(ADDS, m));
-            words.extend(vec![word(ONE, 0); usize::from(m)]);
+    /// A declaration that breaks a limit or a name, or is not exactly the
+    /// indices wanted.
+    pub(super) fn misdeclare(&mut self, case: &mut Case) {
+        let declared = &mut case.declared;
+        match self.rng.below(5) {
+            0 => declared.types = NAMES + 1,
+            1 => declared.bases.resize(NAMES + 1, self.atom()),
+            2 => declared.bases.push(self.index_of(NAMES + 1)),
+            3 => {
+                let letter =
+                    *self.rng.pick(&[Letter::Scalar, Letter::Ket, Letter::Bra, Letter::Operator]);
+                let words = self.atom().repeat(letter.indices() + 1);
+                declared.variables.push(Variable { letter, words });
+            }
+            _ => declared.bases.push(vec![*self.rng.pick(&[word(TYPE, 31), word(PRODUCT, 0)])]),
         }
-        (words, Step { rule: 12, place: 0, i: 0, j: 0 })
     }
 
     /// The words with one part replaced by a part of any sort and size.
@@ -110,24 +95,8 @@ impl Gen {
                 let names = self.rng.within(28, 40);
                 self.index_of(names)
             }
-            2 => {
-                let mut out = Vec::new();
-                let index = self.index();
-                if self.basis(&index, &mut out) {
-                    out
-                } else {
-                    index
-                }
-            }
-            3 => {
-                // A tensor whose index is near the limit.
-                let (left, right) = (self.rng.within(14, 18), self.rng.within(14, 18));
-                let mut out = vec![word(TSR, 0), word(ZERO_KET, 0)];
-                out.extend(self.index_of(left));
-                out.push(word(ZERO_KET, 0));
-                out.extend(self.index_of(right));
-                out
-            }
+            2 => self.basis_or_index(),
+            3 => self.crowded(ZERO_KET),
             _ => {
                 let want = self.want();
                 self.term(&want, 2)
@@ -136,7 +105,29 @@ impl Gen {
         [&words[..place], &other, &words[end..]].concat()
     }
 
-    fn any_word(&mut self) -> u16 {
+    /// A basis of an index or, where there is none, the index.
+    pub(super) fn basis_or_index(&mut self) -> Vec<u16> {
+        let mut out = Vec::new();
+        let index = self.index();
+        if self.basis(&index, &mut out) {
+            out
+        } else {
+            index
+        }
+    }
+
+    /// A tensor of two heads over an index each that together are near the
+    /// limit.
+    pub(super) fn crowded(&mut self, head: u8) -> Vec<u16> {
+        let (left, right) = (self.rng.within(14, 18), self.rng.within(14, 18));
+        let mut out = vec![word(TSR, 0), word(head, 0)];
+        out.extend(self.index_of(left));
+        out.push(word(head, 0));
+        out.extend(self.index_of(right));
+        out
+    }
+
+    pub(super) fn any_word(&mut self) -> u16 {
         match self.rng.below(4) {
             0 => self.rng.draw() as u16,
             1 => word(self.rng.below(28) as u8, self.rng.below(4) as u8),

@@ -1,21 +1,36 @@
 //! Larger typed terms around a part.
 
-use super::terms::{adjoint, product, Want};
+use super::terms::{adjoint, product, sum_head, Want};
 use super::Gen;
 use crate::words::*;
 use Want::{Bra, Ket, Operator, Scalar};
 
 impl Gen {
-    /// Puts conjugates or adjoints before a term, which keep its type, until
-    /// it is 60 to 64 deep: the words, and where the term now begins.
+    /// A term 60 to 64 deep with a term in it: the words, and where that begins.
     pub fn deepen(&mut self, want: &Want, words: &[u16]) -> (Vec<u16>, usize) {
         let wanted = self.rng.within(61, DEPTH);
-        let missing = wanted.saturating_sub(depth(words).unwrap_or(DEPTH));
-        let (head, above) = match want {
-            Scalar => (CONJ, missing),
-            _ => (ADJ, missing / 2 * 2),
-        };
-        ([&vec![word(head, 0); above], words].concat(), above)
+        deepened(want, words, wanted)
+    }
+
+    /// Adds another term of its type to a term, before or behind it, so that
+    /// the sum has so many words: the words, and where the term now begins.
+    pub fn lengthen(&mut self, want: &Want, words: &[u16], total: usize) -> (Vec<u16>, usize) {
+        let sum = vec![word(sum_head(want), 2)];
+        let other = self.sized(want, total - 1 - words.len());
+        if self.rng.once_in(2) {
+            ([&sum, words, &other].concat(), 1)
+        } else {
+            ([&sum, &other, words].concat(), 1 + other.len())
+        }
+    }
+
+    /// A term of exactly so many words: a scalar, or a leaf that one scales.
+    fn sized(&mut self, want: &Want, words: usize) -> Vec<u16> {
+        if *want == Scalar {
+            return ones(words);
+        }
+        let leaf = self.term(want, 0);
+        [vec![word(SCR, 0)], ones(words - 1 - leaf.len()), leaf].concat()
     }
 
     /// Puts a part into a larger typed term: its type, its words, and where
@@ -126,4 +141,29 @@ impl Gen {
             (around, [vec![word(head, 0)], factor].concat(), Vec::new())
         }
     }
+}
+
+/// Puts conjugates or adjoints before a term, which keep its type, until it is
+/// so deep, or less by one: the words, and where the term now begins.
+pub(super) fn deepened(want: &Want, words: &[u16], wanted: usize) -> (Vec<u16>, usize) {
+    let missing = wanted.saturating_sub(depth(words).unwrap_or(DEPTH));
+    let (head, above) = match want {
+        Scalar => (CONJ, missing),
+        _ => (ADJ, missing / 2 * 2),
+    };
+    ([&vec![word(head, 0); above], words].concat(), above)
+}
+
+/// A scalar of exactly so many words: 1, or sums of it.
+fn ones(words: usize) -> Vec<u16> {
+    if words == 1 {
+        return vec![word(ONE, 0)];
+    }
+    let rest = words - 1;
+    let n = rest.min(CHILDREN);
+    let mut out = vec![word(ADDS, n as u8)];
+    for k in 0..n {
+        out.extend(ones(rest / n + usize::from(k < rest % n)));
+    }
+    out
 }

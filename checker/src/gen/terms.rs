@@ -272,7 +272,7 @@ impl Gen {
     }
 }
 
-fn sum_head(want: &Want) -> u8 {
+pub(super) fn sum_head(want: &Want) -> u8 {
     match want {
         Scalar => ADDS,
         _ => ADD,

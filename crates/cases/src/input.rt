@@ -150,10 +150,27 @@ pub fn store(ws: &mut [u16], i: usize, word: u16) {
     }
 }
 
+// Puts a word to the offsets from `from` up to `to`.
+pub fn fill(ws: &mut [u16], from: usize, to: usize, word: u16) {
+    let mut i = from;
+    while i < to {
+        store(ws, i, word);
+        i += 1;
+    }
+}
+
 // The first `n` words, or all where there are fewer.
 pub fn front(ws: &[u16], n: usize) -> &[u16] {
     if n < ws.len() {
         return &ws[..n];
+    }
+    ws
+}
+
+// The same of a slice that is written.
+pub fn front_mut(ws: &mut [u16], n: usize) -> &mut [u16] {
+    if n < ws.len() {
+        return &mut ws[..n];
     }
     ws
 }

@@ -9,13 +9,13 @@ mod Gathered
 pub mod FamilyMeanings
 mod Additive
 pub mod Spreading
-mod Every
+pub mod Every
 pub mod AllTypes
 pub mod AllMeanings
 pub mod Known
 pub mod Good
 mod Opening
-mod Matching
+pub mod Matching
 pub mod Decided
 pub mod Formed
 mod Parts

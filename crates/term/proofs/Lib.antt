@@ -8,4 +8,5 @@ pub mod Names
 pub mod TermTest
 pub mod Comparing
 pub mod Places
+mod Levels
 mod Examples

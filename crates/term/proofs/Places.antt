@@ -10,6 +10,7 @@ use lib.Seq.{take-at, drop-at, drop-drop}
 use Rattle.term.specs.Heads.{Label, word}
 use Rattle.term.specs.Trees.{Tree, Forest, node, none, _▹_, count, words, words*, Formed, Formed*, depth, depth*, outside, found, subtree, subtree*, replace, replace*, level, level*}
 use Rattle.term.specs.Parts.{parse}
+use Rattle.term.specs.Terms.{Above, under, above, levelAt}
 use Rattle.term.proofs.Parsing.{some-words, parse-words}
 
 -- ---- the walk to a place
@@ -231,3 +232,46 @@ length-replace t k s u e =
     let p = place t k (subtree-inside t k s e) in
     let x : p .here ≡ s = cc in
     rw (p .replaced u, p .whole, x) (simp length-append (omega arith))
+
+-- ---- the level of a place by the words before it
+mutual
+  unfolding above under words count Formed
+
+  -- a whole part is one part more
+  above-tree : (t : Tree) (ws : List ℕ) → Formed t → above (words t ++ ws) ≡ record { level = above ws .level; parts = above ws .parts + 1 }
+  above-tree (node l cs) ws h =
+      let r = above-forest cs ws (h .1) in
+      rw (h .0, r, le-ltb (above ws .parts + count cs) (count cs) (omega arith)) (ap (λ (n : ℕ). record { level = above ws .level; parts = n }) (omega arith))
+
+  above-forest : (f : Forest) (ws : List ℕ) → Formed* f → above (words* f ++ ws) ≡ record { level = above ws .level; parts = above ws .parts + count f }
+  above-forest none ws h = ap (λ (n : ℕ). record { level = above ws .level; parts = n }) (omega arith)
+  above-forest (t ▹ f) ws h =
+      rw (append-assoc (words t) (words* f) ws, above-tree t (words* f ++ ws) (h .0), above-forest f ws (h .1))
+      (ap (λ (n : ℕ). record { level = above ws .level; parts = n }) (omega arith))
+
+at-above : {f : Forest} {s : Tree} {w : Around} → At f s w → Formed* f → (above (w .before) .level ≡ w .above) × (above (w .before) .parts < count f)
+unfolding above under count Formed
+at-above here h = (refl, omega arith)
+at-above (below p) h = let q = at-above p (h .0 .1) in rw (h .0 .0, lt-ltb _ _ (q .1)) (ap suc (q .0), omega arith)
+at-above (later {t} {w = w} p) h = let q = at-above p (h .1) in rw (above-tree t (w .before) (h .0)) (q .0, omega arith)
+
+pub level-words : (t : Tree) (k : ℕ) → Formed t → k < length (words t) → levelAt (words t) k ≡ level t k
+unfolding levelAt Formed
+level-words t k f h =
+    let p = see t k h in
+    let e = ap (take k) (p .place .whole) ∙ take-at (p .place .before) (words (p .place .here) ++ p .place .after) k (p .place .offset) in
+    ap (λ (ws : List ℕ). above ws .level) e ∙ at-above (p .at) (f, tt) .0
+
+-- ---- a part is no deeper than the whole
+at-deep : {f : Forest} {s : Tree} {w : Around} → At f s w → depth s ≤ depth* f
+unfolding depth
+at-deep here = omega arith
+at-deep (below p) = omega (arith, at-deep p)
+at-deep (later p) = omega (arith, at-deep p)
+
+pub subtree-depth : (t : Tree) (k : ℕ) (s : Tree) → subtree t k ≡ found s → depth s ≤ depth t
+unfolding depth
+subtree-depth t k s e =
+    let p = see t k (subtree-inside t k s e) in
+    let x : p .place .here ≡ s = cc in
+    rw (← x) (omega (arith, at-deep (p .at)))

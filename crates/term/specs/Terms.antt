@@ -2,10 +2,11 @@
 use mathlib.Core.Path.{_≡_}
 use mathlib.Core.Bool.{Bool, true, cond, _&&_}
 use mathlib.Core.List.{List, [], _∷_}
-use Prim.Native.Nat.{ℕ, _/_, _%_, _≤_}
+use Prim.Native.Nat.{ℕ, suc, _+_, _-_, _/_, _%_, _≤_}
 use lib.Dec.{eqb, leb, ltb}
 use lib.ListN.{length, take, drop}
 use Rattle.term.specs.declared.terms.Names.{Names}
+use Rattle.term.specs.Heads.{Reading, unread, labelled, read}
 use Rattle.term.specs.Trees.{Tree, Forest, none, _▹_, words, Formed, depth}
 use Rattle.term.specs.Parts.{parse, part}
 
@@ -33,6 +34,25 @@ firstDepth (t ▹ f) = depth t
 unfoldable pub partDepth : List ℕ → ℕ → ℕ
 unfolding firstDepth
 partDepth ws at = firstDepth (parse (drop at ws))
+
+-- How many heads stand above the place behind a run of words, and how many whole parts stand between it and the nearest of them. From right to left, as `parse`: a head that
+-- wants more parts than stand behind it has the place below it, any other is a whole part with those that it wants
+pub record Above : Type 0 where
+  pub level : ℕ
+  pub parts : ℕ
+
+unfoldable pub under : Reading → Above → Above
+under unread a = a
+under (labelled l n) a = cond (ltb (a .parts) n) (record { level = suc (a .level); parts = 0 }) (record { level = a .level; parts = a .parts - n + 1 })
+
+unfoldable pub above : List ℕ → Above
+unfolding under
+above [] = record { level = 0; parts = 0 }
+above (w ∷ ws) = under (read w) (above ws)
+
+unfoldable pub levelAt : List ℕ → ℕ → ℕ
+unfolding above
+levelAt ws at = above (take at ws) .level
 
 -- 01: "Names are 0 to 31 and must be declared", where so many are
 unfoldable pub known : ℕ → ℕ → Bool

@@ -6,7 +6,7 @@ ghost use mathlib.Core.Path.{_≡_};
 ghost use Prim.Native.Nat.{_+_, _≤_, min, max};
 ghost use lib.ListN.{length};
 ghost use Rattle.term.specs.Parts.{part};
-ghost use Rattle.term.specs.Terms.{partDepth, known, declared, allDeclared, isTerm};
+ghost use Rattle.term.specs.Terms.{partDepth, levelAt, known, declared, allDeclared, isTerm};
 
 // How many names of each kind are declared.
 pub struct Names {
@@ -70,6 +70,27 @@ pub fn depth_at(ws: &[u16], at: usize) -> usize
 {
     let whole = measure(ws, at, 64);
     whole.depth
+}
+
+// How many heads stand above the offset `at`: one walk back over the words before it, which counts the whole parts behind the nearest head that is not passed.
+pub fn level_at(ws: &[u16], at: usize) -> usize
+    ensures { λ r. ⌜ r ≡ levelAt (now (ws .entry)) at ⌝ }
+{
+    let mut i = if at < ws.len() { at } else { ws.len() };
+    let mut level = 0;
+    let mut parts = 0;
+    while 0 < i {
+        i -= 1;
+        if let Arity::Children(n) = arity_of(ws[i]) {
+            if parts < n {
+                level += 1;
+                parts = 0;
+            } else {
+                parts = parts - n + 1;
+            }
+        }
+    }
+    level
 }
 
 fn is_known(name: usize, count: usize) -> bool

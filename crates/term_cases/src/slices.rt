@@ -1,19 +1,12 @@
 // A slice of a case is its number of runs, and for each run a count and a word, so that a long slice is a short line.
+use cases::input::fill;
+use cases::input::front_mut;
 use cases::input::narrow;
 use cases::input::next_count;
 use cases::input::next_number;
-use cases::input::store;
 
 // The longest slice of a case has so many words.
 pub const MOST: usize = 20000;
-
-fn fill(ws: &mut [u16], from: usize, to: usize, word: u16) {
-    let mut i = from;
-    while i < to {
-        store(ws, i, word);
-        i += 1;
-    }
-}
 
 // Where a run ends that begins at `from`: at the end of the room where it would go on behind that.
 fn end_of_run(from: usize, count: usize, room: usize) -> usize {
@@ -30,14 +23,6 @@ fn read_run(ws: &mut [u16], from: usize) -> usize {
     let to = end_of_run(from, next_number(), ws.len());
     fill(ws, from, to, narrow(next_number()));
     to
-}
-
-// Of a slice that is written, what `input::front` is of one that is read.
-fn front_mut(ws: &mut [u16], n: usize) -> &mut [u16] {
-    if n < ws.len() {
-        return &mut ws[..n];
-    }
-    ws
 }
 
 // The slice is read to the front of `room`, and what that has no place for is dropped.

@@ -19,8 +19,8 @@ use Rattle.types.specs.First.{HasSort, FirstUntyped}
 use Rattle.types.specs.Rules.{IsType}
 use Rattle.types.specs.Sorts.{Sort, index, basis, scalar, ket, bra, operator}
 use Rattle.types.specs.TypeOf.{Typed, typed, untyped, typeOf}
-use Rattle.typing.specs.Statements.{Sound, Complete, Places}
-use Rattle.typing.proofs.Answering.{here, wrong-size, bad-declarations, no-term, the-term}
+use Rattle.typing.specs.Statements.{Sound, Complete, Places, Parts}
+use Rattle.typing.proofs.Answering.{here, wrong-size, bad-declarations, no-term, the-term, the-part}
 use Rattle.types.proofs.Complete.{complete}
 use Rattle.declarations.proofs.Entries.{well-formed}
 use Rattle.types.proofs.Place.{first-untyped, no-sort}
@@ -90,3 +90,7 @@ place-entry ds ws n t size good inside is term h =
     let W = well-formed ds good in
     let u = no-sort W t h in
     (u .0, first-untyped W t (u .0) (u .1), answer-on ds ws n t size good inside is term ∙ ap (answerOf n (depth t)) (u .1))
+
+-- ---- the same rules type a part
+pub part-entry : Parts
+part-entry ds ws at good some shallow = the-part ds ws at good some shallow

@@ -1,21 +1,29 @@
 -- The answer of "the typing of one term": document 01, "What comes out, by whose doing".
 use mathlib.Core.Path.{_≡_}
-use mathlib.Core.Bool.{true, cond}
+use mathlib.Core.Bool.{true, cond, _&&_}
 use mathlib.Core.List.{List, [], _++_}
 use Prim.Native.Nat.{ℕ, _≤_}
-use lib.Dec.{eqb}
-use lib.ListN.{length, take, replicate}
-use Rattle.term.specs.Parts.{parse, treeIn}
-use Rattle.term.specs.Terms.{maxWords, partDepth, IsTerm, isTerm}
+use lib.Dec.{eqb, leb, ltb}
+use lib.ListN.{length, take, drop, replicate}
+use Rattle.term.specs.Parts.{parse, part, treeIn}
+use Rattle.term.specs.Terms.{maxWords, maxDepth, partDepth, IsTerm, isTerm}
 use Rattle.term.specs.Trees.{Tree, words}
 use Rattle.typing.specs.declared.terms.Kind as K
 use Rattle.typing.specs.declared.terms.Kind.the-variants as Kinds
+use Rattle.typing.specs.declared.terms.Sizes as Z
 use Rattle.typing.specs.declared.terms.TermType as T
 use Rattle.typing.specs.declared.terms.Typing as A
 use Rattle.declarations.specs.Declarations.{contextIn, namesIn, goodDeclarations}
 use Rattle.types.specs.Rules.{_⊢_∶_, IsType}
 use Rattle.types.specs.Sorts.{Sort, index, basis, scalar, ket, bra, operator}
 use Rattle.types.specs.TypeOf.{Typed, typed, untyped, typeOf}
+
+-- a kind by its number, with the lengths that it carries
+abbrev pub sizesOf : K.Kind → Z.Sizes
+sizesOf Kinds.Scalar = record { number = 0; rows = 0; columns = 0 }
+sizesOf (Kinds.Ket n) = record { number = 1; rows = n; columns = 0 }
+sizesOf (Kinds.Bra m) = record { number = 2; rows = 0; columns = m }
+sizesOf (Kinds.Operator n m) = record { number = 3; rows = n; columns = m }
 
 -- 01: "words of a type behind its indices are zero"
 unfoldable pub pad : List ℕ → List ℕ
@@ -57,6 +65,17 @@ typingOf ds ws n =
     (refuse 8 0))
     (refuse 7 0))
     (refuse 1 0)
+
+-- The same of the part that begins at an offset of any words, for those who rewrite it: 7; 8 where no whole part begins there, or it is deeper than a term; 10, with the
+-- offset in the part; 11
+unfoldable pub partTypingOf : List ℕ → List ℕ → ℕ → A.Typing
+unfolding refuse answerOf goodDeclarations part partDepth typeOf contextIn treeIn
+partTypingOf ds ws at =
+    cond (goodDeclarations ds)
+    (cond (ltb 0 (length (part ws at)) && leb (partDepth ws at) maxDepth)
+    (answerOf (length (part ws at)) (partDepth ws at) (typeOf (contextIn ds) 0 (treeIn (parse (drop at ws)))))
+    (refuse 8 0))
+    (refuse 7 0)
 
 -- ---- what an accepted answer means by the published rules: the first n words of the slice are a term, and it has a type
 pub record TypedTerm (ds ws : List ℕ) (n : ℕ) (t : Tree) (S : Sort) : Type 0 where

@@ -2,15 +2,16 @@
 use mathlib.Core.Path.{_≡_}
 use mathlib.Core.Bool.{true}
 use mathlib.Core.List.{List}
-use Prim.Native.Nat.{ℕ, _≤_}
-use lib.ListN.{length, take}
+use Prim.Native.Nat.{ℕ, _≤_, _<_}
+use lib.ListN.{length, take, drop}
 use Rattle.term.specs.Trees.{Tree, words, depth}
-use Rattle.term.specs.Terms.{maxWords, IsTerm}
+use Rattle.term.specs.Parts.{parse, part, treeIn}
+use Rattle.term.specs.Terms.{maxWords, maxDepth, partDepth, IsTerm}
 use Rattle.types.specs.Sorts.{Sort}
 use Rattle.types.specs.First.{HasSort, FirstUntyped}
-use Rattle.types.specs.TypeOf.{typed}
+use Rattle.types.specs.TypeOf.{typed, typeOf}
 use Rattle.declarations.specs.Declarations.{contextIn, namesIn, goodDeclarations}
-use Rattle.typing.specs.Answers.{refuse, answerOf, typingOf, TypedTerm}
+use Rattle.typing.specs.Answers.{refuse, answerOf, typingOf, partTypingOf, TypedTerm}
 
 -- what is accepted is a term, and has a type by the rules
 abbrev pub Sound : Type 0
@@ -25,3 +26,9 @@ abbrev pub Places : Type 0
 Places =
     (ds ws : List ℕ) (n : ℕ) (t : Tree) → length ws ≡ maxWords → goodDeclarations ds ≡ true → n ≤ length ws → words t ≡ take n ws → IsTerm (namesIn ds) t
     → (HasSort (contextIn ds) t → ⊥) → (k : ℕ) × FirstUntyped (contextIn ds) t k × (typingOf ds ws n ≡ refuse 10 k)
+
+-- the part that begins at an offset is typed by the same rules, where it is whole and no deeper than a term
+abbrev pub Parts : Type 0
+Parts =
+    (ds ws : List ℕ) (at : ℕ) → goodDeclarations ds ≡ true → 0 < length (part ws at) → partDepth ws at ≤ maxDepth
+    → partTypingOf ds ws at ≡ answerOf (length (part ws at)) (partDepth ws at) (typeOf (contextIn ds) 0 (treeIn (parse (drop at ws))))

@@ -5,10 +5,18 @@ use crate::sorts::number;
 use declarations::are_good;
 use declarations::names_of;
 use term::heads::Class;
+use term::parts::part_end;
 use term::terms::depth_at;
 use term::terms::is_term;
 ghost use mathlib.Core.Path.{_≡_};
-ghost use Rattle.typing.specs.Answers.{refuse, typingOf};
+ghost use mathlib.Core.Bool.{true};
+ghost use Prim.Native.Nat.{_≤_, _<_};
+ghost use lib.ListN.{length};
+ghost use Rattle.term.specs.Parts.{parse, part, treeIn};
+ghost use Rattle.term.specs.Terms.{partDepth};
+ghost use Rattle.types.specs.TypeOf.{typeOf};
+ghost use Rattle.declarations.specs.Declarations.{contextIn, goodDeclarations};
+ghost use Rattle.typing.specs.Answers.{sizesOf, refuse, answerOf, typingOf, partTypingOf};
 ghost use Rattle.typing.specs.Code.Accepting.{accept, answerTo};
 
 // The kind of a type, with the lengths of its indices.
@@ -17,6 +25,40 @@ pub enum Kind {
     Ket(usize),
     Bra(usize),
     Operator(usize, usize),
+}
+
+// A kind by its number (0 scalar, 1 ket, 2 bra, 3 operator) with the lengths of the indices of its rows and of its columns, 0 where it has none.
+pub struct Sizes {
+    pub number: u16,
+    pub rows: usize,
+    pub columns: usize,
+}
+
+pub fn sizes_of(kind: Kind) -> Sizes
+    ensures { λ r. ⌜ r ≡ sizesOf kind ⌝ }
+{
+    match kind {
+        Kind::Scalar => Sizes {
+            number: 0,
+            rows: 0,
+            columns: 0,
+        },
+        Kind::Ket(rows) => Sizes {
+            number: 1,
+            rows,
+            columns: 0,
+        },
+        Kind::Bra(columns) => Sizes {
+            number: 2,
+            rows: 0,
+            columns,
+        },
+        Kind::Operator(rows, columns) => Sizes {
+            number: 3,
+            rows,
+            columns,
+        },
+    }
 }
 
 // A type: its kind, and the words of its indices with zeros behind. A ket's index is that of its rows, a bra's that of its columns.
@@ -102,6 +144,19 @@ fn answered(length: usize, depth: usize, s: Sorted) -> Typing
     refused_with(11, 0)
 }
 
+// What a whole part with which `ws` begins is found to be; `n` is its length. The declarations were tested, and the part is no deeper than a term.
+fn typed_as(ds: &[u16], ws: &[u16], n: usize) -> Typing
+    requires { ⌜ (goodDeclarations (now ds) ≡ true) × (0 < length (part (now ws) 0)) × (partDepth (now ws) 0 ≤ 64) ⌝ }
+    ensures { λ r. ⌜ r ≡ answerOf n (partDepth (now (ws .entry)) 0) (typeOf (contextIn (now (ds .entry))) 0 (treeIn (parse (now (ws .entry))))) ⌝ }
+{
+    let found = type_part(ds, ws, 64);
+    if !found.typed {
+        return refused_with(10, found.at);
+    }
+    let sorted = found.sorted;
+    answered(n, depth_at(ws, 0), sorted)
+}
+
 // The type of the term in the first `n` words of a work slice, under declarations. Nothing is relied on: the tests are 1, 7, 8, 10 and 11.
 pub fn type_term(ds: &[u16], ws: &[u16], n: usize) -> Typing
     ensures { λ r. ⌜ r ≡ typingOf (now (ds .entry)) (now (ws .entry)) n ⌝ }
@@ -115,11 +170,23 @@ pub fn type_term(ds: &[u16], ws: &[u16], n: usize) -> Typing
     if !is_term(names_of(ds), ws, n) {
         return refused_with(8, 0);
     }
-    let term = &ws[..n];
-    let found = type_part(ds, term, 64);
-    if !found.typed {
-        return refused_with(10, found.at);
+    typed_as(ds, &ws[..n], n)
+}
+
+// The type of the part that begins at `at` in any words: 7 for bad declarations, 8 where no whole part begins there or it is deeper than a term, 10 with the
+// offset in the part, and 11.
+pub fn type_at(ds: &[u16], ws: &[u16], at: usize) -> Typing
+    ensures { λ r. ⌜ r ≡ partTypingOf (now (ds .entry)) (now (ws .entry)) at ⌝ }
+{
+    if !are_good(ds) {
+        return refused_with(7, 0);
     }
-    let sorted = found.sorted;
-    answered(n, depth_at(term, 0), sorted)
+    let end = part_end(ws, at);
+    if end == at {
+        return refused_with(8, 0);
+    }
+    if 64 < depth_at(ws, at) {
+        return refused_with(8, 0);
+    }
+    typed_as(ds, &ws[at..], end - at)
 }

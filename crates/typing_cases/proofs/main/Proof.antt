@@ -12,14 +12,11 @@ abbrev μ-loop : tie.MeasureT-loop
 loop-holds : tie.Need-loop-holds Inv-loop μ-loop
 loop-holds c = search needs
 
-number-or-end-requires : tie.Need-number-or-end-requires Inv-loop μ-loop
-number-or-end-requires c κs = search needs
+answer-case-requires : tie.Need-answer-case-requires Inv-loop μ-loop
+answer-case-requires c κs = search needs
 
 returns : tie.Need-returns Inv-loop μ-loop
 returns c = search needs
-
-answer-case-requires : tie.Need-answer-case-requires Inv-loop μ-loop
-answer-case-requires c κs = search needs
 
 sub-turns : tie.Need-sub-turns Inv-loop μ-loop
 sub-turns c = search needs
@@ -40,9 +37,8 @@ main-spec =
     Inv-loop
     μ-loop
     loop-holds
-    number-or-end-requires
-    returns
     answer-case-requires
+    returns
     sub-turns
     loop-less
     loop-again

@@ -1,10 +1,9 @@
 -- Each answer is that of the first test that fails, or what the whole part was found to be.
 use mathlib.Core.Path.{sym, _∙_}
-use native.Mathlib.Omega.{arith}
 use borrow.Author.Needs.{needs}
 use borrow.Author.Tests.{not-true, not-false}
 use lib.Seq.{length-take-le}
-use Rattle.typing.proofs.Answering.{term-test, here, here-part, here-shallow, wrong-size, bad-declarations, no-term, the-term, typed-answer, untyped-answer}
+use Rattle.typing.proofs.Answering.{term-test, here, here-part, here-shallow, wrong-size, bad-declarations, no-term, the-term}
 use Rattle.typing.proofs.terms.type_term.Statement.{statement}
 use Rattle.typing.proofs.terms.type_term.Tie as tie
 
@@ -38,43 +37,23 @@ returns-3 c =
     let test = term-test _ _ _ _ (c .before .before .before .names-of .ensures) _ (c .before .before .is-term .ensures) ∙ not-true _ (c .before .if3 .taken) in
     c .refused-with3 .ensures ∙ sym (no-term _ _ _ (c .before .before .before .before .before .before .if1 .left) good test)
 
-slice-aggregate-term : tie.Need-slice-aggregate-term
-slice-aggregate-term c =
+slice-aggregate-typed-as : tie.Need-slice-aggregate-typed-as
+slice-aggregate-typed-as c =
     let args = c .before .before .before .before .before .before .before .before .before .args in
     let test = term-test _ _ _ _ (c .before .before .before .names-of .ensures) _ (c .before .before .is-term .ensures) ∙ not-false _ (c .before .if3 .left) in
     sym (length-take-le (args .n) (args .ws .now) (here _ _ _ test .inside))
 
-type-part-requires : tie.Need-type-part-requires
-type-part-requires c κs =
+typed-as-requires : tie.Need-typed-as-requires
+typed-as-requires c κs =
     let good = sym (c .before .before .before .before .before .are-good .ensures) ∙ not-false _ (c .before .before .before .before .if2 .left) in
     let test = term-test _ _ _ _ (c .before .before .before .names-of .ensures) _ (c .before .before .is-term .ensures) ∙ not-false _ (c .before .if3 .left) in
-    let h = here _ _ _ test in (good, here-part h, here-shallow h, omega arith)
-
-refused-with-requires-4 : tie.Need-refused-with-requires-4
-refused-with-requires-4 c κs = search needs
+    let h = here _ _ _ test in (good, here-part h, here-shallow h)
 
 returns-4 : tie.Need-returns-4
 returns-4 c =
-    let size = c .before .before .before .before .before .before .before .before .before .before .if1 .left in
-    let good = sym (c .before .before .before .before .before .before .before .before .before .are-good .ensures) ∙ not-false _ (c .before .before .before .before .before .before .before .before .if2 .left) in
-    let test = term-test _ _ _ _ (c .before .before .before .before .before .before .before .names-of .ensures) _ (c .before .before .before .before .before .before .is-term .ensures) ∙ not-false _ (c .before .before .before .before .before .if3 .left) in
-    c .refused-with4 .ensures ∙ untyped-answer _ _ _ _ _ (c .before .before .before .type-part .ensures) (not-true _ (c .before .if4 .taken)) ∙ sym (the-term _ _ _ size good test)
-
-depth-at-requires : tie.Need-depth-at-requires
-depth-at-requires c κs = search needs
-
-answered-requires : tie.Need-answered-requires
-answered-requires c κs = search needs
-
-returns-5 : tie.Need-returns-5
-returns-5 c =
-    let size = c .before .before .before .before .before .before .before .before .before .before .before .before .if1 .left in
-    let good = sym (c .before .before .before .before .before .before .before .before .before .before .before .are-good .ensures) ∙ not-false _ (c .before .before .before .before .before .before .before .before .before .before .if2 .left) in
-    let test = term-test _ _ _ _ (c .before .before .before .before .before .before .before .before .before .names-of .ensures) _ (c .before .before .before .before .before .before .before .before .is-term .ensures) ∙ not-false _ (c .before .before .before .before .before .before .before .if3 .left) in
-    let l = here-shallow (here _ _ _ test) in
-    c .answered .ensures
-    ∙ typed-answer _ _ _ _ _ _ (c .before .before .before .before .before .type-part .ensures) (not-false _ (c .before .before .before .if4 .left)) (omega (arith, c .before .depth-at .ensures))
-    ∙ sym (the-term _ _ _ size good test)
+    let good = sym (c .before .before .before .before .before .before .are-good .ensures) ∙ not-false _ (c .before .before .before .before .before .if2 .left) in
+    let test = term-test _ _ _ _ (c .before .before .before .before .names-of .ensures) _ (c .before .before .before .is-term .ensures) ∙ not-false _ (c .before .before .if3 .left) in
+    c .typed-as .ensures ∙ sym (the-term _ _ _ (c .before .before .before .before .before .before .before .if1 .left) good test)
 
 pub type-term-spec : {M : Type 1} → statement M
 type-term-spec =
@@ -89,10 +68,6 @@ type-term-spec =
     is-term-requires
     refused-with-requires-3
     returns-3
-    slice-aggregate-term
-    type-part-requires
-    refused-with-requires-4
-    returns-4
-    depth-at-requires
-    answered-requires
-    returns-5)
+    slice-aggregate-typed-as
+    typed-as-requires
+    returns-4)

@@ -1,0 +1,194 @@
+//! What the step cases are on which `compare.sh` holds the proved step to this
+//! checker: they take every rule and narrowly miss it, and meet every code and
+//! every limit.
+
+use checker::case::Case;
+use checker::gen::Gen;
+use checker::rules::{by_number, Out, Rule, Way, RULES};
+use checker::step::{single, Step, Stepped};
+use checker::words::{depth, head, low, part, parts, word, DEPTH, SCR, WORDS};
+use std::collections::BTreeMap;
+use std::sync::OnceLock;
+
+/// As `test.sh` calls it.
+const SEED: u64 = 1;
+const COUNT: usize = 10_000;
+
+/// A generated case, its answer, and the words of the term that was left.
+struct Taken {
+    case: Case,
+    step: Step,
+    answer: Stepped,
+    left: Vec<u16>,
+}
+
+impl Taken {
+    /// The rule of the step, and the part at its place.
+    fn rule_and_part(&self) -> (&'static Rule, &[u16]) {
+        let rule = by_number(self.step.rule).expect("a rule");
+        (rule, part(&self.case.words[..self.case.length], self.step.place.into()))
+    }
+}
+
+fn taken() -> &'static [Taken] {
+    static TAKEN: OnceLock<Vec<Taken>> = OnceLock::new();
+    TAKEN.get_or_init(|| {
+        let mut gen = Gen::new(SEED);
+        let mut take = || {
+            let case = Case::read(&gen.step_case()).expect("a case");
+            let step = case.step.expect("a step");
+            let mut left = case.slice();
+            let answer = single(&case.declared, &mut left, case.length, step);
+            left.truncate(answer.length);
+            Taken { case, step, answer, left }
+        };
+        (0..COUNT).map(|_| take()).collect()
+    })
+}
+
+/// The cases with a code.
+fn answered(code: u8) -> impl Iterator<Item = &'static Taken> {
+    taken().iter().filter(move |it| it.answer.code == code)
+}
+
+/// How often each was met.
+fn counted<T: Ord>(items: impl Iterator<Item = T>) -> BTreeMap<T, usize> {
+    let mut counts = BTreeMap::new();
+    for item in items {
+        *counts.entry(item).or_default() += 1;
+    }
+    counts
+}
+
+#[test]
+fn every_code_is_met() {
+    let codes = counted(taken().iter().map(|it| it.answer.code));
+    println!("answers by code: {codes:?}");
+    let met: Vec<u8> = codes.into_keys().collect();
+    assert_eq!(met, [0, 1, 7, 8, 10, 11, 20, 21, 22, 23]);
+}
+
+#[test]
+fn every_rule_is_taken_and_missed() {
+    for code in [0, 22] {
+        let rules = counted(answered(code).map(|it| it.step.rule));
+        println!("code {code}: at least {:?} a rule", rules.values().min());
+        for rule in &RULES {
+            let count = rules.get(&rule.number).copied().unwrap_or(0);
+            assert!(count >= 5, "rule {} has code {code} {count} times", rule.number);
+        }
+    }
+}
+
+/// Why a part whose head is that of a rule is no instance of it.
+#[derive(Clone, Copy, PartialEq, Eq, PartialOrd, Ord, Debug)]
+enum Miss {
+    /// With other indices it would be one.
+    Indices,
+    /// With no indices it would be one.
+    Part,
+}
+
+fn miss(it: &Taken) -> Option<(u16, Miss)> {
+    let (rule, part) = it.rule_and_part();
+    let mut room = [0; WORDS];
+    let mut fits = |i, j| {
+        let mut out = Out::new(&mut room);
+        rule.apply(&it.case.declared, part, i, j, &mut out).is_some()
+    };
+    let few = 0..5;
+    let miss = if few.clone().any(|i| few.clone().any(|j| fits(i, j))) {
+        Miss::Indices
+    } else {
+        Miss::Part
+    };
+    rule.begins_with(head(part[0])).then_some((rule.number, miss))
+}
+
+#[test]
+fn every_rule_is_narrowly_missed() {
+    let misses = counted(answered(22).filter_map(miss));
+    println!("at least {:?} of a rule and a miss", misses.values().min());
+    for rule in &RULES {
+        for miss in [Miss::Indices, Miss::Part] {
+            assert!(misses.contains_key(&(rule.number, miss)), "rule {}: {miss:?}", rule.number);
+        }
+    }
+}
+
+/// Whether a refused part has just one child too few, or two children that
+/// should be equal and are not.
+fn nearly(it: &Taken) -> bool {
+    let (rule, part) = it.rule_and_part();
+    match rule.way {
+        Way::Remove { parent, unit } => part[0] == word(parent, 1) && head(part[1]) == unit,
+        Way::Collect { i_scaled, j_scaled } if rule.begins_with(head(part[0])) => {
+            let child = |k: u16| parts(&part[1..]).nth(k.into());
+            let stands = |k, scaled: bool| child(k).is_some_and(|it| !scaled || head(it[0]) == SCR);
+            let Step { i, j, .. } = it.step;
+            i < j && stands(i, i_scaled) && stands(j, j_scaled)
+        }
+        _ => false,
+    }
+}
+
+#[test]
+fn lone_units_and_unequal_summands_are_met() {
+    let rules = counted(answered(22).filter(|it| nearly(it)).map(|it| it.step.rule));
+    println!("by rule: {rules:?}");
+    let met: Vec<u16> = rules.into_keys().collect();
+    assert_eq!(met, [4, 6, 51, 52, 53, 54, 55, 56, 57]);
+}
+
+/// What stands at a limit after a good step, or past it after a refused one.
+#[derive(Clone, Copy, PartialEq, Eq, PartialOrd, Ord, Debug)]
+enum Limit {
+    Children,
+    Words,
+    Depth,
+}
+
+/// Merged children, where the parent has so many and the child two.
+fn merged_two(it: &Taken, parent: u8) -> Option<Limit> {
+    let (rule, part) = it.rule_and_part();
+    let child = parts(&part[1..]).nth(it.step.i.into())?;
+    let two = low(part[0]) == parent && low(child[0]) == 2;
+    (rule.number == 1 && two).then_some(Limit::Children)
+}
+
+fn at_limit(it: &Taken) -> Option<Limit> {
+    match it.left.len() {
+        WORDS => Some(Limit::Words),
+        _ if depth(&it.left) == Some(DEPTH) => Some(Limit::Depth),
+        _ => merged_two(it, 254),
+    }
+}
+
+fn past_limit(it: &Taken) -> Option<Limit> {
+    let (rule, part) = it.rule_and_part();
+    let mut room = vec![0; 1 << 20];
+    let mut out = Out::new(&mut room);
+    let (i, j) = (it.step.i.into(), it.step.j.into());
+    rule.apply(&it.case.declared, part, i, j, &mut out).expect("an instance");
+    match out.done() {
+        None => merged_two(it, 255),
+        Some(new) if it.left.len() - part.len() + new.len() > WORDS => Some(Limit::Words),
+        Some(_) => Some(Limit::Depth),
+    }
+}
+
+#[test]
+fn every_limit_is_met_and_passed() {
+    let met = counted(answered(0).filter_map(at_limit));
+    let passed = counted(answered(23).filter_map(past_limit));
+    println!("met: {met:?}; passed: {passed:?}");
+    assert_eq!((met.len(), passed.len()), (3, 3));
+}
+
+#[test]
+fn words_behind_the_term_are_met_with_every_code() {
+    let dirty = |it: &&Taken| it.case.slice().iter().skip(it.case.length).any(|&word| word != 0);
+    let codes = counted(taken().iter().filter(dirty).map(|it| it.answer.code));
+    println!("by code: {codes:?}");
+    assert_eq!(codes.len(), 10);
+}

@@ -1,0 +1,2 @@
+-- The laws of the code's table of rules.
+pub mod Rows

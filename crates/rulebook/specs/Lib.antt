@@ -1,0 +1,2 @@
+-- The code's table of rules.
+pub mod Rows

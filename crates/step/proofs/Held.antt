@@ -1,0 +1,59 @@
+-- A work slice that holds a typed term: what the entry says of it, and that a step leaves such a slice again.
+use mathlib.Core.Path.{_≡_, refl, _∙_, ap}
+use mathlib.Core.Bool.{true}
+use mathlib.Core.List.{List}
+use Prim.Native.Nat.{ℕ, _≤_}
+use native.Mathlib.Omega.{arith}
+use lib.ListN.{length, length-append, length-replicate}
+use lib.Seq.{take-at}
+use Rattle.term.specs.Parts.{treeIn}
+use Rattle.term.specs.Terms.{maxWords}
+use Rattle.term.specs.Trees.{Tree, words, depth}
+use Rattle.term.proofs.Parsing.{parse-tree}
+use Rattle.types.specs.Rules.{IsType}
+use Rattle.types.specs.Sorts.{Sort, scalar, ket, bra, operator}
+use Rattle.types.specs.TypeOf as T
+use Rattle.declarations.specs.Declarations.{contextIn, goodDeclarations}
+use Rattle.declarations.proofs.Entries.{counts-in}
+use Rattle.typing.specs.declared.terms.Typing as A
+use Rattle.typing.specs.Answers.{typing, answerOf, typingOf, TypedTerm}
+use Rattle.typing.proofs.Theorems.{complete-entry}
+use Rattle.rules.specs.Steps.{stepOf}
+use Rattle.rules.specs.Statements.{Typed}
+use Rattle.step.specs.declared.single.Step.{Step}
+use Rattle.step.specs.Answers.{asked, held, stepIn}
+
+-- a type is accepted
+type-code : (n d : ℕ) (S : Sort) → IsType S → answerOf n d (T.typed S) .code ≡ 0
+unfolding answerOf typing
+type-code n d scalar h = refl
+type-code n d (ket σ) h = refl
+type-code n d (bra σ) h = refl
+type-code n d (operator σ τ) h = refl
+
+module _ {ds ws : List ℕ} {n : ℕ} {t : Tree} {S : Sort} (h : TypedTerm ds ws n t S) where
+  pub accepted-code : typingOf ds ws n .code ≡ 0
+  accepted-code = ap (λ (a : A.Typing). a .code) (complete-entry ds ws n t S h) ∙ type-code n (depth t) S (h .isType)
+
+  pub its-step : (s : Step) → stepIn ds ws n s ≡ stepOf (contextIn ds) t (asked s)
+  unfolding stepIn treeIn
+  its-step s = rw (← h .is, parse-tree t (h .term .formed))
+
+  pub its-type : Typed (contextIn ds) S t
+  its-type = record { rules = h .rules; form = rw (← counts-in ds (h .good)) (h .term) }
+
+-- the slice of a typed term: 4,096 words, which begin with the term's
+pub held-typed : {ds : List ℕ} {S : Sort} {t : Tree} → goodDeclarations ds ≡ true → IsType S → Typed (contextIn ds) S t → TypedTerm ds (held t) (length (words t)) t S
+unfolding held
+held-typed {ds} {S} {t} good type d =
+    let short : length (words t) ≤ maxWords = d .form .short in
+    let size : length (held t) ≡ maxWords = simp (length-append, length-replicate) (omega arith) in
+    record {
+      size = size;
+      good = good;
+      inside = omega arith;
+      is = rw (take-at (words t) _ (length (words t)) refl);
+      term = rw (counts-in ds good) (d .form);
+      isType = type;
+      rules = d .rules;
+    }

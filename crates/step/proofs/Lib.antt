@@ -1,0 +1,35 @@
+-- The laws of stepping.
+mod Added
+mod Opened
+mod Split
+mod Walk
+mod Heads
+mod Tested
+mod Few
+mod Written
+mod Next
+mod Removed
+mod Absorbed
+mod Merged
+mod Swapped
+mod Walks
+mod Left
+mod Indices
+mod Pieces
+mod Right
+mod Sited
+mod Equated
+mod Spread
+mod Summands
+mod Pairs
+mod Multiples
+mod Matched
+mod Collected
+mod Gathered
+mod Dispatched
+mod Limits
+mod Putting
+mod Stepped
+mod Held
+mod Taking
+pub mod Theorems

@@ -1,0 +1,141 @@
+-- The limits of a result: its children, its words and its depth, from the part that is new.
+use mathlib.Core.Path.{_≡_, refl, sym, _∙_, ap}
+use mathlib.Core.Bool.{Bool, true, false, cond, and-eq-true-iff, and-false}
+use mathlib.Core.List.{List, [], _++_}
+use Prim.Native.Nat.{ℕ, zero, suc, _+_, _-_, _≤_, _<_}
+use native.Mathlib.Decide.{decLt}
+use native.Mathlib.Omega.{arith}
+use borrow.Author.Tests.{lt-ltb, le-ltb, le-leb, lt-leb}
+use lib.Dec.{ltb, leb}
+use lib.ListN.{length, take, drop, length-append, length-drop}
+use Rattle.words.specs.Words.{Added}
+use Rattle.term.specs.Trees.{Tree, Forest, node, none, _▹_, count, words, depth, replace, replace*, level}
+use Rattle.term.specs.Terms.{maxWords, maxDepth, maxChildren, firstDepth, partDepth, levelAt}
+use Rattle.term.proofs.Parsing.{parse-tree, prefix-free}
+use Rattle.term.proofs.Places.{place, subtree-inside, subtree-formed, replace-formed, words-replace, length-replace, level-replace, depth-replace, level-words}
+use Rattle.rules.specs.Steps.{few, few*, within, limited}
+use Rattle.rules.proofs.Formed.{formed-few}
+use Rattle.step.specs.declared.writing.Rewritten.{Rewritten}
+use Rattle.step.specs.Code.Making.{Fresh, Made}
+
+-- ---- few children at each node: of the whole where they are few in the new part
+count-kept : (f : Forest) (k : ℕ) (u : Tree) → count (replace* f k u) ≡ count f
+unfolding replace count
+count-kept none k u = refl
+count-kept (t ▹ f) k u = by-test (ltb k (length (words t))) (count-kept f (k - length (words t)) u)
+  where
+    by-test : (b : Bool) → count (replace* f (k - length (words t)) u) ≡ count f → count (cond b (replace t k u ▹ f) (t ▹ replace* f (k - length (words t)) u)) ≡ suc (count f)
+    by-test true e = refl
+    by-test false e = ap suc e
+
+mutual
+  unfolding replace few words count
+
+  few-replace : (t : Tree) (k : ℕ) (u : Tree) → few t ≡ true → few u ≡ true → few (replace t k u) ≡ true
+  few-replace (node l cs) zero u h g = g
+  few-replace (node l cs) (suc k) u h g =
+      let p = and-eq-true-iff (leb (count cs) maxChildren) (few* cs) .0 h in
+      rw (count-kept cs k u, p .0) (few-replace* cs k u (p .1) g)
+
+  few-replace* : (f : Forest) (k : ℕ) (u : Tree) → few* f ≡ true → few u ≡ true → few* (replace* f k u) ≡ true
+  few-replace* none k u h g = refl
+  few-replace* (t ▹ f) k u h g =
+      let p = and-eq-true-iff (few t) (few* f) .0 h in
+      elim (decLt k (length (words t))) [
+        | yes d ↦ rw (lt-ltb k (length (words t)) d, few-replace t k u (p .0) g) (p .1)
+        | no d ↦ rw (le-ltb k (length (words t)) (omega arith), p .0) (few-replace* f (k - length (words t)) u (p .1) g)
+      ]
+
+-- ---- the tests
+module _ (t u : Tree) where
+  too-long : maxWords < length (words u) → limited t u ≡ record { code = 23; tree = t }
+  unfolding limited within
+  too-long h = rw (lt-leb (length (words u)) maxWords h, and-false (few u))
+
+  too-deep : maxDepth < depth u → limited t u ≡ record { code = 23; tree = t }
+  unfolding limited within
+  too-deep h = rw (lt-leb (depth u) maxDepth h, and-false (leb (length (words u)) maxWords), and-false (few u))
+
+  pub too-many : few u ≡ false → limited t u ≡ record { code = 23; tree = t }
+  unfolding limited within
+  too-many h = rw h
+
+  in-limits : few u ≡ true → length (words u) ≤ maxWords → depth u ≤ maxDepth → limited t u ≡ record { code = 0; tree = u }
+  unfolding limited within
+  in-limits f h d = rw (f, le-leb (length (words u)) maxWords h, le-leb (depth u) maxDepth d)
+
+-- ---- a fresh part in its term
+module _ {term : List ℕ} {at end : ℕ} {out : List ℕ} {new : ℕ} (f : Fresh term at end out new) where
+  abbrev whole : Tree
+  whole = replace (f .tree) at (f .result)
+
+  inside : at < length (words (f .tree))
+  inside = subtree-inside (f .tree) at (f .part) (f .there)
+
+  -- where the part ends, and how long the whole becomes
+  pub end-inside : (at ≤ end) × (end ≤ length term) × (at ≤ length term)
+  end-inside = omega (arith, ap length (f .is), f .ends, part-fits)
+    where
+      part-fits : at + length (words (f .part)) ≤ length (words (f .tree))
+      part-fits =
+          let p = place (f .tree) at inside in
+          let x : p .here ≡ f .part = cc in
+          let l = ap length (p .whole) in
+          let a = length-append (p .before) (words (p .here) ++ p .after) in
+          let b = length-append (words (p .here)) (p .after) in
+          let c = ap (λ (t : Tree). length (words t)) x in
+          omega (arith, p .offset)
+
+  whole-length : length (words whole) ≡ at + (length (words (f .result)) + (length term - end))
+  whole-length =
+      let r = length-replace (f .tree) at (f .part) (f .result) (f .there) in
+      omega (arith, ap length (f .is), f .ends, end-inside)
+
+  whole-few : few whole ≡ true
+  whole-few = few-replace (f .tree) at (f .result) (formed-few (f .tree) (f .formed)) (formed-few (f .result) (f .result-formed))
+
+  -- the depth of the words that were written, and the level of the place
+  pub result-depth : length (words (f .result)) ≤ maxWords → partDepth (take new out) 0 ≡ depth (f .result)
+  unfolding partDepth firstDepth
+  result-depth h = rw (f .written h, parse-tree (f .result) (f .result-formed))
+
+  pub place-level : levelAt term at ≡ level (f .tree) at
+  place-level = rw (← f .is) (level-words (f .tree) at (f .formed) inside)
+
+  -- the part in its own place is the term itself
+  same-replaced : replace (f .tree) at (f .part) ≡ f .tree
+  same-replaced =
+      let p = place (f .tree) at inside in
+      let x : p .here ≡ f .part = cc in
+      let w : words (replace (f .tree) at (f .part)) ≡ words (f .tree) = rw (← x) (p .replaced (p .here) ∙ sym (p .whole)) in
+      prefix-free _ _ (replace-formed (f .tree) at (f .part) (f .formed) (subtree-formed (f .tree) at (f .part) (f .formed) (f .there))) (f .formed) [] [] (ap (λ (ws : List ℕ). ws ++ []) w)
+
+  pub level-small : level (f .tree) at ≤ maxDepth
+  level-small = let d = ap depth same-replaced in omega (arith, level-replace (f .tree) at (f .part) inside, f .shallow)
+
+  -- ---- the four ends
+  refused-made : (out′ : List ℕ) (r : Rewritten) → limited (f .tree) whole ≡ record { code = 23; tree = f .tree } → length out′ ≡ maxWords → r .code ≡ 23 → Made (f .tree) (limited (f .tree) whole) at out′ r
+  refused-made out′ r e s c =
+      rw e (record { size = s; code = c; fits = λ z. absurd (omega (arith, z, c)); words-are = λ z. absurd (omega (arith, z, c)); stays = λ z. refl })
+
+  pub made-long : (out′ : List ℕ) (r : Rewritten) → maxWords < new → length out′ ≡ maxWords → r .code ≡ 23 → Made (f .tree) (limited (f .tree) whole) at out′ r
+  made-long out′ r h = refused-made out′ r (too-long (f .tree) whole (omega (arith, whole-length, f .new-end)))
+
+  pub made-behind : (out′ : List ℕ) (r : Rewritten) → maxWords < at + (length (words (f .result)) + (length term - end)) → length out′ ≡ maxWords → r .code ≡ 23
+      → Made (f .tree) (limited (f .tree) whole) at out′ r
+  made-behind out′ r h = refused-made out′ r (too-long (f .tree) whole (rw whole-length h))
+
+  pub made-deep : (out′ : List ℕ) (r : Rewritten) → maxDepth < level (f .tree) at + depth (f .result) → length out′ ≡ maxWords → r .code ≡ 23
+      → Made (f .tree) (limited (f .tree) whole) at out′ r
+  made-deep out′ r h = refused-made out′ r (too-deep (f .tree) whole (omega (arith, level-replace (f .tree) at (f .result) inside)))
+
+  pub made-good : (out′ : List ℕ) (r : Rewritten) → length (words (f .result)) ≤ maxWords → level (f .tree) at + depth (f .result) ≤ maxDepth
+      → at + (length (words (f .result)) + (length term - end)) ≤ maxWords → Added out new (drop end term) out′ (r .end) → r .code ≡ 0 → Made (f .tree) (limited (f .tree) whole) at out′ r
+  made-good out′ r short shallow fits a c =
+      let d = length-drop end term in
+      let n : new ≡ length (words (f .result)) = omega (arith, f .new-end) in
+      let e : r .end ≡ new + length (drop end term) = omega (arith, a .end, f .size, end-inside) in
+      let w : take (r .end) out′ ≡ words (f .result) ++ drop end term = rw e (a .front (omega (arith, f .size, end-inside)) ∙ rw (f .written short)) in
+      let u : words whole ≡ take at (words (f .tree)) ++ (words (f .result) ++ drop end (words (f .tree))) = rw (f .ends) (words-replace (f .tree) at (f .part) (f .result) (f .there)) in
+      rw (in-limits (f .tree) whole whole-few (rw whole-length fits) (omega (arith, depth-replace (f .tree) at (f .result), f .shallow)))
+      (record { size = a .size ∙ f .size; code = c; fits = λ z. omega (arith, e, n, d, end-inside); words-are = λ z. u ∙ rw (w, f .is); stays = λ z. absurd (z c) })

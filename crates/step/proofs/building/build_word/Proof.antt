@@ -1,0 +1,87 @@
+-- Each word is written for what it stands for.
+use mathlib.Core.Path.{_∙_}
+use Prim.Native.Nat.{_%_, _<_}
+use native.Mathlib.Omega.{arith}
+use borrow.Author.Needs.{needs}
+use Rattle.step.proofs.Added.{added-as}
+use Rattle.step.proofs.Pieces.{piece-word, piece-hole, piece-index, asked-hole, caught-bounds, caught-run, caught-tree, caught-part, caught-shallow}
+use Rattle.step.proofs.building.build_word.Statement.{statement}
+use Rattle.step.proofs.building.build_word.Tie as tie
+
+-- the hole that the word asks for was met
+hole : (c : tie.Else1) → let args = c .before .before .before .before .args in args .word % 256 < args .t4 .held
+hole c = asked-hole _ _ (c .before .before .before .before .pre .1) (omega arith)
+
+append-word-requires : tie.Need-append-word-requires
+append-word-requires c κs = search needs
+
+same-length : tie.Need-same-length
+same-length c = search needs
+
+returns : tie.Need-returns
+returns c = λ d h. added-as (piece-word _ d _ (c .before .before .before .before .if1 .taken)) (c .before .before .append-word .ensures)
+
+cast-hole : tie.Need-cast-hole
+cast-hole c = search needs
+
+mul-start : tie.Need-mul-start
+mul-start c = search needs
+
+element-copy-out-start : tie.Need-element-copy-out-start
+element-copy-out-start c = let b = caught-bounds (c .before .before .before .before .pre .0 .1) _ (hole c) in search needs
+
+mul-end : tie.Need-mul-end
+mul-end c = search needs
+
+element-copy-out-end : tie.Need-element-copy-out-end
+element-copy-out-end c = let b = caught-bounds (c .before .before .before .before .before .pre .0 .1) _ (hole (c .before)) in search needs
+
+add-append-run : tie.Need-add-append-run
+add-append-run c = let b = caught-bounds (c .before .before .before .before .before .before .before .before .pre .0 .1) _ (hole (c .before .before .before .before)) in search needs
+
+add-append-run-2 : tie.Need-add-append-run-2
+add-append-run-2 c = let b = caught-bounds (c .before .before .before .before .before .before .before .before .pre .0 .1) _ (hole (c .before .before .before .before)) in search needs
+
+append-run-requires : tie.Need-append-run-requires
+append-run-requires c κs = let b = caught-bounds (c .before .before .before .before .before .before .before .before .pre .0 .1) _ (hole (c .before .before .before .before)) in search needs
+
+same-length-2 : tie.Need-same-length-2
+same-length-2 c = search needs
+
+returns-2 : tie.Need-returns-2
+returns-2 c = λ d h. added-as (caught-run h _ (hole (c .before .before .before .before .before .before .before)) ∙ piece-hole _ d _ (omega arith) (c .before .before .before .before .if2 .taken)) (c .before .before .append-run .ensures)
+
+add-append-index : tie.Need-add-append-index
+add-append-index c = let b = caught-bounds (c .before .before .before .before .before .before .before .pre .0 .1) _ (hole (c .before .before .before)) in search needs
+
+append-index-requires : tie.Need-append-index-requires
+append-index-requires c κs = let h = c .before .before .before .before .before .before .before .before .pre .0 .1 in let k = hole (c .before .before .before .before) in (h .good, caught-part h _ k, caught-shallow h _ k)
+
+same-length-3 : tie.Need-same-length-3
+same-length-3 c = search needs
+
+returns-3 : tie.Need-returns-3
+returns-3 c =
+    λ d h. added-as (rw (caught-tree h _ (hole (c .before .before .before .before .before .before .before))) (piece-index _ d _ (omega arith) (c .before .before .before .before .if2 .left))) (c .before .before .append-index .ensures)
+
+pub build-word-spec : {M : Type 1} → statement M
+build-word-spec =
+    tie.close
+    (tie.spec
+    append-word-requires
+    same-length
+    returns
+    cast-hole
+    mul-start
+    element-copy-out-start
+    mul-end
+    element-copy-out-end
+    add-append-run
+    add-append-run-2
+    append-run-requires
+    same-length-2
+    returns-2
+    add-append-index
+    append-index-requires
+    same-length-3
+    returns-3)

@@ -1,0 +1,86 @@
+-- The tests in their order; what each finds, the equation of a step says.
+use native.Mathlib.Omega.{arith}
+use borrow.Author.Needs.{needs}
+use Rattle.step.proofs.Stepped.{ruled, site, made-20, made-21, made-22, fine, finished}
+use Rattle.step.proofs.stepping.make.Statement.{statement}
+use Rattle.step.proofs.stepping.make.Tie as tie
+
+cast-row-of : tie.Need-cast-row-of
+cast-row-of c = search needs
+
+row-of-requires : tie.Need-row-of-requires
+row-of-requires c κs = search needs
+
+refused-requires : tie.Need-refused-requires
+refused-requires c κs = search needs
+
+returns : tie.Need-returns
+returns c = λ x. made-20 x _ _ _ (c .before .before .before .before .before .before .before .before .pre .1) _ (c .before .before .before .row-of .ensures) (c .before .if1 .taken) (c .refused .ensures .0)
+
+cast-place : tie.Need-cast-place
+cast-place c = search needs
+
+refused-requires-2 : tie.Need-refused-requires-2
+refused-requires-2 c κs = search needs
+
+returns-2 : tie.Need-returns-2
+returns-2 c = λ x. made-21 x _ _ _ (c .before .before .before .before .before .before .before .before .before .before .pre .1) (ruled _ _ (c .before .before .before .before .before .row-of .ensures) (c .before .before .before .if1 .left)) (c .before .if2 .taken) (c .refused2 .ensures .0)
+
+part-end-requires : tie.Need-part-end-requires
+part-end-requires c κs = search needs
+
+cast-rewrite-part : tie.Need-cast-rewrite-part
+cast-rewrite-part c = search needs
+
+cast-rewrite-part-2 : tie.Need-cast-rewrite-part-2
+cast-rewrite-part-2 c = search needs
+
+rewrite-part-requires : tie.Need-rewrite-part-requires
+rewrite-part-requires c κs =
+    let k = ruled _ _ (c .before .before .before .before .before .before .before .before .row-of .ensures) (c .before .before .before .before .before .before .if1 .left) in
+    (site (c .before .before .before .before .before .before .before .before .before .before .before .before .before .pre .0) _ (omega (arith, c .before .before .before .before .if2 .left)) _ (c .before .before .before .part-end .ensures), (k .rule, k .lines))
+
+same-length : tie.Need-same-length
+same-length c = search needs
+
+returns-3 : tie.Need-returns-3
+returns-3 c =
+    λ x.
+    let k = ruled _ _ (c .before .before .before .before .before .before .before .before .before .before .before .before .before .row-of .ensures) (c .before .before .before .before .before .before .before .before .before .before .before .if1 .left) in
+    made-22 x _ k (c .before .before .before .before .before .before .before .before .before .if2 .left) _ (c .before .before .before .before .before .before .before .before .before .before .before .before .before .before .before .before .before .before .pre .1) _ (c .before .before .before .before .before .before .before .before .part-end .ensures) _ _ (c .before .before .before .before .rewrite-part .ensures) (c .if3 .taken)
+
+finish-requires : tie.Need-finish-requires
+finish-requires c κs =
+    let k = ruled _ _ (c .before .before .before .before .before .before .before .before .before .before .before .before .before .before .row-of .ensures) (c .before .before .before .before .before .before .before .before .before .before .before .before .if1 .left) in
+    fine (c .before .before .before .before .before .before .before .before .before .before .before .before .before .before .before .before .before .before .before .pre .0) _ k (c .before .before .before .before .before .before .before .before .before .before .if2 .left) _ (c .before .before .before .before .before .before .before .before .before .before .before .before .before .before .before .before .before .before .before .pre .1) _ (c .before .before .before .before .before .before .before .before .before .part-end .ensures) _ _ (c .before .before .before .before .before .rewrite-part .ensures) (c .before .if3 .left) .fresh
+
+same-length-2 : tie.Need-same-length-2
+same-length-2 c = search needs
+
+returns-4 : tie.Need-returns-4
+returns-4 c =
+    λ x.
+    let k = ruled _ _ (c .before .before .before .before .before .before .before .before .before .before .before .before .before .before .before .before .before .row-of .ensures) (c .before .before .before .before .before .before .before .before .before .before .before .before .before .before .before .if1 .left) in
+    let f = fine x _ k (c .before .before .before .before .before .before .before .before .before .before .before .before .before .if2 .left) _ (c .before .before .before .before .before .before .before .before .before .before .before .before .before .before .before .before .before .before .before .before .before .before .pre .1) _ (c .before .before .before .before .before .before .before .before .before .before .before .before .part-end .ensures) _ _ (c .before .before .before .before .before .before .before .before .rewrite-part .ensures) (c .before .before .before .before .if3 .left) in
+    finished x _ k (c .before .before .before .before .before .before .before .before .before .before .before .before .before .if2 .left) _ (c .before .before .before .before .before .before .before .before .before .before .before .before .before .before .before .before .before .before .before .before .before .before .pre .1) _ (c .before .before .before .before .before .before .before .before .before .before .before .before .part-end .ensures) _ _ (c .before .before .before .before .before .before .before .before .rewrite-part .ensures) f (c .before .before .finish .ensures (f .fresh))
+
+pub make-spec : {M : Type 1} → statement M
+make-spec =
+    tie.close
+    (tie.spec
+    cast-row-of
+    row-of-requires
+    refused-requires
+    returns
+    cast-place
+    refused-requires-2
+    returns-2
+    part-end-requires
+    cast-rewrite-part
+    cast-rewrite-part-2
+    rewrite-part-requires
+    same-length
+    returns-3
+    finish-requires
+    same-length-2
+    returns-4)

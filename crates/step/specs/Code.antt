@@ -1,0 +1,8 @@
+-- How the code does it: nothing here is needed to read the promise of the entries.
+pub mod Children
+pub mod Writing
+pub mod Families
+pub mod Matching
+pub mod Building
+pub mod Site
+pub mod Making

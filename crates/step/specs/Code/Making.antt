@@ -1,0 +1,46 @@
+-- A result made apart, and what it is made of.
+use mathlib.Core.Path.{_≡_}
+use mathlib.Core.Logic.{_≢_}
+use mathlib.Core.Bool.{true}
+use mathlib.Core.List.{List, _++_}
+use Prim.Native.Nat.{ℕ, _+_, _≤_, min}
+use lib.ListN.{length, take}
+use Rattle.term.specs.Trees.{Tree, words, Formed, depth, found, subtree}
+use Rattle.term.specs.Terms.{maxWords, maxDepth}
+use Rattle.types.specs.Sorts.{Sort}
+use Rattle.declarations.specs.Declarations.{contextIn, goodDeclarations}
+use Rattle.rules.specs.Statements.{Typed}
+use Rattle.rules.specs.Steps.{Stepped, few}
+use Rattle.step.specs.declared.writing.Rewritten.{Rewritten}
+
+-- the words of a typed term, under good declarations
+pub record Termed (ds term : List ℕ) : Type 0 where
+  pub good : goodDeclarations ds ≡ true
+  pub tree : Tree
+  pub sort : Sort
+  pub typed : Typed (contextIn ds) sort tree
+  pub is : words tree ≡ term
+
+-- a part of it that gives way to a result, whose words stand in the scratch slice as far as they fit
+pub record Fresh (term : List ℕ) (place end : ℕ) (out : List ℕ) (new : ℕ) : Type 0 where
+  pub tree : Tree
+  pub is : words tree ≡ term
+  pub short : length term ≤ maxWords
+  pub formed : Formed tree
+  pub shallow : depth tree ≤ maxDepth
+  pub part : Tree
+  pub there : subtree tree place ≡ found part
+  pub ends : end ≡ place + length (words part)
+  pub result : Tree
+  pub result-formed : Formed result
+  pub size : length out ≡ maxWords
+  pub new-end : new ≡ min (length (words result)) (maxWords + 1)
+  pub written : length (words result) ≤ maxWords → take new out ≡ words result
+
+-- A step's answer: its code, and where that is 0 the scratch slice begins with the words from the place on; else the term is what it was
+pub record Made (t : Tree) (y : Stepped) (place : ℕ) (out : List ℕ) (r : Rewritten) : Type 0 where
+  pub size : length out ≡ maxWords
+  pub code : r .code ≡ y .code
+  pub fits : r .code ≡ 0 → place + r .end ≤ maxWords
+  pub words-are : r .code ≡ 0 → words (y .tree) ≡ take place (words t) ++ take (r .end) out
+  pub stays : r .code ≢ 0 → y .tree ≡ t

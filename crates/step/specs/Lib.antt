@@ -1,0 +1,4 @@
+-- The single step.
+pub mod Answers
+pub mod Statements
+pub mod Code

@@ -1,0 +1,122 @@
+// The families of rules: one function each, over the offsets of the children. Each is handed the words of the part, `ws`, and writes its result
+// behind the first `at` words of `out`. Heads are given by their numbers.
+use crate::children::child_at;
+use crate::writing::Rewritten;
+use crate::writing::append_run;
+use crate::writing::append_without;
+use crate::writing::append_word;
+use crate::writing::refused;
+use term::parts::part_end;
+ghost use mathlib.Core.Path.{_≡_};
+ghost use mathlib.Core.Bool.{true, false};
+ghost use lib.ListN.{length};
+ghost use Rattle.term.specs.Parts.{Whole};
+ghost use Rattle.step.specs.Code.Families.{Removes, Absorbs, Merges, Swaps, chainWord};
+
+// 4, 6, 55 to 57: child `i` goes, the fitting zero or one, from two or more.
+pub fn remove(
+    ws: &[u16],
+    parent: u16,
+    child: u16,
+    i: usize,
+    out: &mut [u16],
+    at: usize,
+) -> Rewritten
+    requires { ⌜ Whole (now ws) ⌝ }
+    ensures { λ r. ⌜ Removes (now (ws .entry)) (now (out .entry)) at (now (out .exit)) r parent child i ⌝ }
+{
+    if ws[0] / 256 != parent {
+        return refused(22);
+    }
+    let c = child_at(ws, i);
+    if !c.there {
+        return refused(22);
+    }
+    let start = c.start;
+    let end = c.end;
+    if ws[start] / 256 != child {
+        return refused(22);
+    }
+    if ws[0] % 256 < 2 {
+        return refused(22);
+    }
+    let done = append_without(out, at, ws[0] - 1, ws, start, end);
+    Rewritten { code: 0, end: done }
+}
+
+// 5: child `i` is 0, and so is the product.
+pub fn absorb(ws: &[u16], i: usize, out: &mut [u16], at: usize) -> Rewritten
+    requires { ⌜ Whole (now ws) ⌝ }
+    ensures { λ r. ⌜ Absorbs (now (ws .entry)) (now (out .entry)) at (now (out .exit)) r i ⌝ }
+{
+    if ws[0] / 256 != 8 {
+        return refused(22);
+    }
+    let c = child_at(ws, i);
+    if !c.there {
+        return refused(22);
+    }
+    let start = c.start;
+    if ws[start] != 1280 {
+        return refused(22);
+    }
+    let done = append_word(out, at, 1280);
+    Rewritten { code: 0, end: done }
+}
+
+// Whether a word's head has any number of children in any order: 7, 8 or 20.
+pub fn is_chain(word: u16) -> bool
+    ensures { λ r. ⌜ r ≡ chainWord word ⌝ }
+{
+    let head = word / 256;
+    head == 7 || head == 8 || head == 20
+}
+
+// 1: child `i`, of the parent's own head, is merged into it: its head's word goes, and the parent's counts its children too.
+pub fn merge(ws: &[u16], i: usize, out: &mut [u16], at: usize) -> Rewritten
+    requires { ⌜ Whole (now ws) ⌝ }
+    ensures { λ r. ⌜ Merges (now (ws .entry)) (now (out .entry)) at (now (out .exit)) r i ⌝ }
+{
+    if !is_chain(ws[0]) {
+        return refused(22);
+    }
+    let c = child_at(ws, i);
+    if !c.there {
+        return refused(22);
+    }
+    let start = c.start;
+    if ws[start] / 256 != ws[0] / 256 {
+        return refused(22);
+    }
+    let more = ws[start] % 256;
+    if 256 < ws[0] % 256 + more {
+        return refused(23);
+    }
+    let done = append_without(out, at, ws[0] - 1 + more, ws, start, start + 1);
+    Rewritten { code: 0, end: done }
+}
+
+// 170: children `i` and `i` + 1 change places.
+pub fn swap(ws: &[u16], i: usize, out: &mut [u16], at: usize) -> Rewritten
+    requires { ⌜ Whole (now ws) ⌝ }
+    ensures { λ r. ⌜ Swaps (now (ws .entry)) (now (out .entry)) at (now (out .exit)) r i ⌝ }
+{
+    if !is_chain(ws[0]) {
+        return refused(22);
+    }
+    let c = child_at(ws, i);
+    if !c.there {
+        return refused(22);
+    }
+    let start = c.start;
+    let middle = c.end;
+    if middle == ws.len() {
+        return refused(22);
+    }
+    let end = part_end(ws, middle);
+    let a = append_run(out, at, ws, 0, start);
+    let b = append_run(out, a, ws, middle, end);
+    let d = append_run(out, b, ws, start, middle);
+    let done = append_run(out, d, ws, end, ws.len());
+    Rewritten { code: 0, end: done }
+}

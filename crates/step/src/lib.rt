@@ -1,0 +1,11 @@
+mod building;
+mod children;
+mod collecting;
+mod equations;
+mod families;
+mod matching;
+mod rewriting;
+pub mod single;
+mod spreading;
+mod stepping;
+mod writing;

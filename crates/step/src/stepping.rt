@@ -1,0 +1,99 @@
+// A step on a typed term: the result is made apart, so that a refusal moves nothing.
+use crate::rewriting::rewrite_part;
+use crate::single::Step;
+use crate::writing::Rewritten;
+use crate::writing::refused;
+use rulebook::row_of;
+use term::parts::part_end;
+use term::terms::depth_at;
+use term::terms::level_at;
+use words::append;
+use words::clear_from;
+ghost use mathlib.Core.Path.{_≡_};
+ghost use mathlib.Core.Bool.{cond};
+ghost use mathlib.Core.List.{_++_};
+ghost use Prim.Native.Nat.{_+_, _-_, _≤_};
+ghost use lib.Dec.{eqb};
+ghost use lib.ListN.{length, take, replicate};
+ghost use Rattle.term.specs.Trees.{words, replace};
+ghost use Rattle.declarations.specs.Declarations.{contextIn};
+ghost use Rattle.typing.specs.Answers.{typingOf};
+ghost use Rattle.rules.specs.Steps.{limited, stepOf};
+ghost use Rattle.step.specs.Answers.{asked, held, stepIn};
+ghost use Rattle.step.specs.Code.Making.{Termed, Fresh, Made};
+
+// What a step comes to: its code, and the length of the term that is left.
+pub struct Taken {
+    pub code: usize,
+    pub length: usize,
+}
+
+// The limits of the whole result, and the words behind the part. A part's new words stand in the first `new` of `out`.
+fn finish(term: &[u16], place: usize, end: usize, new: usize, out: &mut [u16]) -> Rewritten
+    requires { ⌜ Fresh (now term) place end (now out) new ⌝ }
+    ensures { λ r. ⌜ ((f : Fresh (now (term .entry)) place end (now (out .entry)) new) → Made (f .tree) (limited (f .tree) (replace (f .tree) place (f .result))) place (now (out .exit)) r) ⌝ }
+{
+    if 4096 < new {
+        return refused(23);
+    }
+    let deep = depth_at(&out[..new], 0);
+    if 64 < level_at(term, place) + deep {
+        return refused(23);
+    }
+    let done = append(out, new, &term[end..]);
+    if 4096 - place < done {
+        return refused(23);
+    }
+    Rewritten { code: 0, end: done }
+}
+
+// Tests 20 to 23 in their order, and the words of the result from the place on.
+fn make(ds: &[u16], term: &[u16], s: Step, out: &mut [u16]) -> Rewritten
+    requires { ⌜ Termed (now ds) (now term) × (length (now out) ≡ 4096) ⌝ }
+    ensures { λ r. ⌜ ((x : Termed (now (ds .entry)) (now (term .entry))) → Made (x .tree) (stepOf (contextIn (now (ds .entry))) (x .tree) (asked s)) (s .place) (now (out .exit)) r) ⌝ }
+{
+    let row = row_of(s.rule as usize);
+    if row.family == 0 {
+        return refused(20);
+    }
+    let place = s.place as usize;
+    if term.len() <= place {
+        return refused(21);
+    }
+    let end = part_end(term, place);
+    let made = rewrite_part(ds, term, place, end, row, s.i as usize, s.j as usize, out);
+    if made.code != 0 {
+        return made;
+    }
+    finish(term, place, end, made.end, out)
+}
+
+// Puts the words of a result from the place on into their slice, and zeros behind.
+fn put(ws: &mut [u16], place: usize, src: &[u16])
+    requires { ⌜ place + length (now src) ≤ length (now ws) ⌝ }
+    ensures { λ _. ⌜ now (ws .exit) ≡ take place (now (ws .entry)) ++ (now (src .entry) ++ replicate (length (now (ws .entry)) - (place + length (now (src .entry)))) 0) ⌝ }
+{
+    let end = append(ws, place, src);
+    clear_from(ws, end);
+}
+
+// One step of the typed term in the first `n` words, which have zeros behind.
+pub fn step_on(ds: &[u16], ws: &mut [u16], n: usize, s: Step, out: &mut [u16]) -> Taken
+    requires { ⌜ (typingOf (now ds) (now ws) n .code ≡ 0) × (length (now out) ≡ 4096) ⌝ }
+    ensures { λ r. ⌜ (r .code ≡ stepIn (now (ds .entry)) (now (ws .entry)) n s .code) × (r .length ≡ length (words (stepIn (now (ds .entry)) (now (ws .entry)) n s .tree))) × (now (ws .exit) ≡ cond (eqb (r .code) 0) (held (stepIn (now (ds .entry)) (now (ws .entry)) n s .tree)) (now (ws .entry))) × (length (now (out .exit)) ≡ 4096) ⌝ }
+{
+    let result = make(ds, &ws[..n], s, out);
+    if result.code != 0 {
+        return Taken {
+            code: result.code,
+            length: n,
+        };
+    }
+    let place = s.place as usize;
+    let end = result.end;
+    put(ws, place, &out[..end]);
+    Taken {
+        code: 0,
+        length: place + end,
+    }
+}

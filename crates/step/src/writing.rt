@@ -1,0 +1,52 @@
+// Writing a result apart, run by run.
+use words::append;
+ghost use mathlib.Core.Path.{_≡_};
+ghost use mathlib.Core.List.{[], _∷_, _++_};
+ghost use Prim.Native.Nat.{_-_, _≤_};
+ghost use lib.ListN.{length, take, drop};
+ghost use Rattle.words.specs.Words.{Added};
+
+// What a rewriting answers: 0 with the end of what it wrote, or the code 22 or 23 with 0.
+pub struct Rewritten {
+    pub code: usize,
+    pub end: usize,
+}
+
+pub fn refused(code: usize) -> Rewritten
+    ensures { λ r. ⌜ (r .code ≡ code) × (r .end ≡ 0) ⌝ }
+{
+    Rewritten { code, end: 0 }
+}
+
+// One word behind those that stand there.
+pub fn append_word(out: &mut [u16], at: usize, word: u16) -> usize
+    ensures { λ r. ⌜ Added (now (out .entry)) at (word ∷ []) (now (out .exit)) r ⌝ }
+{
+    let run = [word];
+    append(out, at, &run)
+}
+
+// The words of `ws` from `from` up to `to` behind those that stand there.
+pub fn append_run(out: &mut [u16], at: usize, ws: &[u16], from: usize, to: usize) -> usize
+    requires { ⌜ (from ≤ to) × (to ≤ length (now ws)) ⌝ }
+    ensures { λ r. ⌜ Added (now (out .entry)) at (take (to - from) (drop from (now (ws .entry)))) (now (out .exit)) r ⌝ }
+{
+    append(out, at, &ws[from..to])
+}
+
+// A head and then the children of `ws` without its words from `start` up to `from`.
+pub fn append_without(
+    out: &mut [u16],
+    at: usize,
+    head: u16,
+    ws: &[u16],
+    start: usize,
+    from: usize,
+) -> usize
+    requires { ⌜ (1 ≤ start) × (start ≤ from) × (from ≤ length (now ws)) ⌝ }
+    ensures { λ r. ⌜ Added (now (out .entry)) at (head ∷ (take (start - 1) (drop 1 (now (ws .entry))) ++ drop from (now (ws .entry)))) (now (out .exit)) r ⌝ }
+{
+    let a = append_word(out, at, head);
+    let b = append_run(out, a, ws, 1, start);
+    append_run(out, b, ws, from, ws.len())
+}
