@@ -1,8 +1,8 @@
 #!/usr/bin/env bash
 # A proved program against the checker on random cases: checker/compare.sh KIND [SEED [COUNT]], from the root of the repository. KIND is
-# typing or step.
+# typing, step or run.
 set -euo pipefail
-kind=${1:?KIND is typing or step}
+kind=${1:?KIND is typing, step or run}
 seed=${2:-1}
 count=${3:-10000}
 program=target/bin/${kind}_cases

@@ -7,6 +7,7 @@ mod instances;
 mod layers;
 mod misses;
 mod rng;
+mod runs;
 mod steps;
 mod terms;
 mod walks;

@@ -3,6 +3,7 @@
 use checker::case::{self, Sort};
 use checker::file::BYTES;
 use checker::gen::{damaged, Gen};
+use checker::lent::Rooms;
 use checker::numbers;
 use std::io::{self, Read, Write};
 use std::path::Path;
@@ -13,10 +14,11 @@ const USAGE: &str = "\
 checker replay < FILE               the answer to a file
 checker typing < FILE               the answer to a typing case
 checker step < FILE                 the answer to a step case
+checker run < FILE                  the answer to a run case
 checker vectors DIR                 runs the cases under a folder
-checker gen SEED COUNT KIND DIR     writes cases; KIND is accepted, damaged, typing or step
+checker gen SEED COUNT KIND DIR     writes cases; KIND is accepted, damaged, typing, step or run
 checker numbers KIND DIR IN OUT     writes a folder's cases and stored answers as numbers;
-                                    KIND is typing or step
+                                    KIND is typing, step or run
 ";
 
 fn main() -> ExitCode {
@@ -26,6 +28,7 @@ fn main() -> ExitCode {
         ["replay"] => answer(Sort::Replay),
         ["typing"] => answer(Sort::Typing),
         ["step"] => answer(Sort::Step),
+        ["run"] => answer(Sort::Run),
         ["vectors", folder] => vectors(Path::new(folder)),
         ["gen", seed, count, kind, folder] => generate(seed, count, kind, Path::new(folder)),
         ["numbers", kind, folder, input, output] => {
@@ -47,11 +50,12 @@ fn told(error: io::Error) -> String {
 }
 
 /// Answers one case from standard input. No more than one byte past the limit
-/// of a file is read.
+/// of a file is read; the other cases have none.
 fn answer(sort: Sort) -> Result<(), String> {
+    let most = if sort == Sort::Replay { BYTES as u64 + 1 } else { u64::MAX };
     let mut input = Vec::new();
-    io::stdin().take(BYTES as u64 + 1).read_to_end(&mut input).map_err(told)?;
-    let text = sort.answer(&input)?;
+    io::stdin().take(most).read_to_end(&mut input).map_err(told)?;
+    let text = sort.answer(&input, &mut Rooms::default())?;
     io::stdout().write_all(text.as_bytes()).map_err(told)
 }
 
@@ -74,11 +78,13 @@ fn generate(seed: &str, count: &str, kind: &str, folder: &Path) -> Result<(), St
         "accepted" | "damaged" => Sort::Replay,
         "typing" => Sort::Typing,
         "step" => Sort::Step,
+        "run" => Sort::Run,
         _ => return Err(USAGE.to_string()),
     };
     let folder = folder.join(sort.folder());
     fs::create_dir_all(&folder).map_err(told)?;
     let mut gen = Gen::new(seed);
+    let mut rooms = Rooms::default();
     for number in 0..count {
         let input = match kind {
             "accepted" => gen.accepted(30),
@@ -87,10 +93,11 @@ fn generate(seed: &str, count: &str, kind: &str, folder: &Path) -> Result<(), St
                 damaged(&mut gen.rng, &file)
             }
             "typing" => gen.typing_case(),
-            _ => gen.step_case(),
+            "step" => gen.step_case(),
+            _ => gen.run_case(),
         };
         let path = folder.join(format!("{kind}-{seed}-{number:06}.in"));
-        fs::write(path.with_extension("out"), sort.answer(&input)?).map_err(told)?;
+        fs::write(path.with_extension("out"), sort.answer(&input, &mut rooms)?).map_err(told)?;
         fs::write(&path, input).map_err(told)?;
     }
     Ok(())
@@ -101,6 +108,7 @@ fn numbered(kind: &str, folder: &Path, input: &str, output: &str) -> Result<(), 
     let (cases, answers) = match kind {
         "typing" => numbers::typing(folder)?,
         "step" => numbers::step(folder)?,
+        "run" => numbers::run(folder)?,
         _ => return Err(USAGE.to_string()),
     };
     fs::write(input, cases).map_err(told)?;

@@ -1,22 +1,28 @@
 //! Cases as lines of decimal numbers, for programs that read no text.
 //!
-//! A case begins with its declarations, the length that is told and the words
-//! that its slice begins with: the number of types; the number of bases and of
-//! each the length and words of its index; the number of variables and of each
-//! its kind (0 scalar, 1 ket, 2 bra, 3 operator) and the lengths and words of
-//! two indices; the length; the number of words and the words. A typing case
-//! ends there. A step case has the number of words of the whole slice, the word
-//! behind the first ones, the rule, the place, i and j.
+//! A case begins with its declarations: the number of types; the number of
+//! bases and of each the length and words of its index; the number of variables
+//! and of each its kind (0 scalar, 1 ket, 2 bra, 3 operator) and the lengths and
+//! words of two indices. What a slice begins with is the length that is told,
+//! the number of words and the words.
 //!
-//! An answer begins with code, side, step, at, length. Typing adds depth, kind,
+//! A typing case has these of its slice. A step case has them, the number of
+//! words of the whole slice, the word behind the first ones, the rule, the
+//! place, i and j. A run case has for the left and then the right what the slice
+//! begins with and how many words it has; then the count of steps that is told,
+//! the number of the steps' words, and these.
+//!
+//! An answer begins with code, side, step, at. Typing adds length, depth, kind,
 //! and the lengths and words of the index of the rows and that of the columns;
-//! a step the number of words of the slice up to the last that is not zero, and
-//! these. Answers are made of the stored `.out` alone: this checker neither
-//! types the case nor takes its step.
+//! a step the length and the slice, a run both lengths and both slices: the
+//! number of words up to the last that is not zero, and these. Answers are made
+//! of the stored `.out` alone: this checker neither types a case nor takes its
+//! steps.
 
-use crate::case::{inputs, Case, Sort};
+use crate::case::{inputs, Sort};
 use crate::decl::{Declarations, Letter, Variable};
 use crate::file::{number, words};
+use crate::lent::{Case, Lent, RunCase};
 use crate::words::{part, WORDS};
 use std::fs;
 use std::path::Path;
@@ -32,10 +38,15 @@ pub fn step(folder: &Path) -> Result<(String, String), String> {
     lines(folder, Sort::Step, step_case, step_answer)
 }
 
+/// The run cases of a folder by name, and their stored answers.
+pub fn run(folder: &Path) -> Result<(String, String), String> {
+    lines(folder, Sort::Run, run_case, run_answer)
+}
+
 fn lines(
     folder: &Path,
     sort: Sort,
-    of_case: fn(&Case) -> Option<Vec<usize>>,
+    of_case: fn(&[u8]) -> Result<Vec<usize>, String>,
     of_answer: fn(Stored) -> Option<Vec<usize>>,
 ) -> Result<(String, String), String> {
     let (mut cases, mut answers) = (String::new(), String::new());
@@ -44,8 +55,7 @@ fn lines(
         let bytes = fs::read(&input).map_err(|error| told(error.to_string()))?;
         let stored = fs::read_to_string(input.with_extension("out"))
             .map_err(|error| told(error.to_string()))?;
-        let case = Case::read(&bytes).map_err(told)?;
-        cases += &line(&of_case(&case).ok_or_else(|| told("not as numbers".into()))?);
+        cases += &line(&of_case(&bytes).map_err(told)?);
         let answer = of_answer(Stored(stored.lines()));
         answers += &line(&answer.ok_or_else(|| told("no answer".into()))?);
     }
@@ -66,26 +76,44 @@ fn push(numbers: &mut Vec<usize>, words: &[u16]) {
     numbers.extend(words.iter().map(|&word| usize::from(word)));
 }
 
-/// What the cases have in common.
-fn begun(case: &Case) -> Vec<usize> {
+/// The length that is told of a slice, and the words that it begins with.
+fn push_lent(numbers: &mut Vec<usize>, lent: &Lent) {
+    numbers.push(lent.length);
+    push(numbers, &lent.words);
+}
+
+/// The slice is the one that the program lends, 4,096 words with zeros behind
+/// the first ones.
+fn typing_case(input: &[u8]) -> Result<Vec<usize>, String> {
+    let case = Case::read(input)?;
+    if case.lent.size != WORDS || case.behind != 0 {
+        return Err("not as numbers".into());
+    }
     let mut out = declared(&case.declared);
-    out.push(case.length);
-    push(&mut out, &case.words);
-    out
+    push_lent(&mut out, &case.lent);
+    Ok(out)
 }
 
-/// Nothing where the slice is not the one that the program lends, 4,096 words
-/// with zeros behind the first ones.
-fn typing_case(case: &Case) -> Option<Vec<usize>> {
-    (case.size == WORDS && case.behind == 0).then(|| begun(case))
-}
-
-fn step_case(case: &Case) -> Option<Vec<usize>> {
-    let step = case.step?;
-    let mut out = begun(case);
-    out.extend([case.size, case.behind.into()]);
+fn step_case(input: &[u8]) -> Result<Vec<usize>, String> {
+    let case = Case::read(input)?;
+    let step = case.step.ok_or("a step line is wanted")?;
+    let mut out = declared(&case.declared);
+    push_lent(&mut out, &case.lent);
+    out.extend([case.lent.size, case.behind.into()]);
     out.extend([step.rule, step.place, step.i, step.j].map(usize::from));
-    Some(out)
+    Ok(out)
+}
+
+fn run_case(input: &[u8]) -> Result<Vec<usize>, String> {
+    let case = RunCase::read(input)?;
+    let mut out = declared(&case.declared);
+    for lent in [&case.left, &case.right] {
+        push_lent(&mut out, lent);
+        out.push(lent.size);
+    }
+    out.push(case.count);
+    push(&mut out, &case.steps);
+    Ok(out)
 }
 
 fn declared(declared: &Declarations) -> Vec<usize> {
@@ -145,6 +173,14 @@ fn step_answer(mut stored: Stored) -> Option<Vec<usize>> {
     let length = stored.number("length")?;
     let mut out = vec![code, 0, step, at, length];
     push(&mut out, &stored.words("words")?);
+    Some(out)
+}
+
+fn run_answer(mut stored: Stored) -> Option<Vec<usize>> {
+    let fields = ["code", "side", "step", "at", "left", "right"];
+    let mut out = fields.iter().map(|key| stored.number(key)).collect::<Option<Vec<_>>>()?;
+    push(&mut out, &stored.words("left-words")?);
+    push(&mut out, &stored.words("right-words")?);
     Some(out)
 }
 

@@ -251,6 +251,12 @@ pub fn test(words: &[u16], names: Names) -> Option<usize> {
     }
 }
 
+/// The words of a slice up to the last that is not zero.
+pub fn used(slice: &[u16]) -> &[u16] {
+    let end = slice.iter().rposition(|&word| word != 0).map_or(0, |last| last + 1);
+    &slice[..end]
+}
+
 /// The token that stands for a word in a file.
 pub fn token(word: u16) -> String {
     match (form(head(word)), low(word)) {

@@ -2,8 +2,8 @@
 //! checker: they take every rule and narrowly miss it, and meet every code and
 //! every limit.
 
-use checker::case::Case;
 use checker::gen::Gen;
+use checker::lent::Case;
 use checker::rules::{by_number, Out, Rule, Way, RULES};
 use checker::step::{single, Step, Stepped};
 use checker::words::{depth, head, low, part, parts, word, DEPTH, SCR, WORDS};
@@ -26,7 +26,7 @@ impl Taken {
     /// The rule of the step, and the part at its place.
     fn rule_and_part(&self) -> (&'static Rule, &[u16]) {
         let rule = by_number(self.step.rule).expect("a rule");
-        (rule, part(&self.case.words[..self.case.length], self.step.place.into()))
+        (rule, part(&self.case.lent.words[..self.case.lent.length], self.step.place.into()))
     }
 }
 
@@ -38,7 +38,7 @@ fn taken() -> &'static [Taken] {
             let case = Case::read(&gen.step_case()).expect("a case");
             let step = case.step.expect("a step");
             let mut left = case.slice();
-            let answer = single(&case.declared, &mut left, case.length, step);
+            let answer = single(&case.declared, &mut left, case.lent.length, step);
             left.truncate(answer.length);
             Taken { case, step, answer, left }
         };
@@ -187,7 +187,8 @@ fn every_limit_is_met_and_passed() {
 
 #[test]
 fn words_behind_the_term_are_met_with_every_code() {
-    let dirty = |it: &&Taken| it.case.slice().iter().skip(it.case.length).any(|&word| word != 0);
+    let dirty =
+        |it: &&Taken| it.case.slice().iter().skip(it.case.lent.length).any(|&word| word != 0);
     let codes = counted(taken().iter().filter(dirty).map(|it| it.answer.code));
     println!("by code: {codes:?}");
     assert_eq!(codes.len(), 10);

@@ -35,6 +35,8 @@ fn every_code_has_a_case() {
     let codes = [0, 2, 3, 4, 5, 6, 7, 8, 9, 10, 11, 12, 20, 21, 22, 23, 30];
     assert_eq!(stored_codes(case::Sort::Replay), codes);
     assert_eq!(stored_codes(case::Sort::Step), [0, 1, 7, 8, 10, 11, 20, 21, 22, 23]);
+    let codes = [0, 1, 5, 6, 7, 8, 9, 10, 11, 12, 20, 21, 22, 23, 30];
+    assert_eq!(stored_codes(case::Sort::Run), codes);
 }
 
 #[test]
@@ -64,4 +66,5 @@ fn the_programs_are_run_on_the_stored_cases() {
     let folder = Path::new(env!("CARGO_MANIFEST_DIR")).join("vectors");
     hold("typing_cases", numbers::typing(&folder).expect("the cases as numbers"));
     hold("step_cases", numbers::step(&folder).expect("the cases as numbers"));
+    hold("run_cases", numbers::run(&folder).expect("the cases as numbers"));
 }

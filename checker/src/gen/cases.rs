@@ -3,20 +3,26 @@
 
 use super::walks::{declared_text, step_text};
 use super::Gen;
-use crate::case::Case;
-use crate::decl::{Letter, Variable};
+use crate::decl::{Declarations, Letter, Variable};
+use crate::lent::{Case, Lent};
 use crate::words::*;
+
+/// The lines of a slice, whose keys begin so.
+pub(super) fn lent_text(begin: &str, lent: &Lent) -> String {
+    let mut text = format!("{begin}term={}\n", tokens(&lent.words));
+    if lent.length != lent.words.len() {
+        text += &format!("{begin}length={}\n", lent.length);
+    }
+    if lent.size != WORDS {
+        text += &format!("{begin}slice={}\n", lent.size);
+    }
+    text
+}
 
 /// A case as `Case::read` reads it; what need not be said is left out.
 pub(super) fn text(case: &Case) -> Vec<u8> {
     let mut text = declared_text(&case.declared);
-    text += &format!("term={}\n", tokens(&case.words));
-    if case.length != case.words.len() {
-        text += &format!("length={}\n", case.length);
-    }
-    if case.size != WORDS {
-        text += &format!("slice={}\n", case.size);
-    }
+    text += &lent_text("", &case.lent);
     if case.behind != 0 {
         text += &format!("behind={}\n", token(case.behind));
     }
@@ -39,10 +45,10 @@ impl Gen {
         }
         let mut case = self.case(term);
         match self.rng.below(8) {
-            0..4 => self.mistype(&mut case),
-            4 => self.misspell(&mut case),
-            5 if self.rng.once_in(2) => case.length = self.rng.below(case.words.len() + 2),
-            5 => self.misdeclare(&mut case),
+            0..4 => self.mistype(&mut case.lent),
+            4 => self.misspell(&mut case.lent),
+            5 if self.rng.once_in(2) => self.mistell(&mut case.lent),
+            5 => self.misdeclare(&mut case.declared),
             _ => {}
         }
         text(&case)
@@ -50,27 +56,29 @@ impl Gen {
 
     /// A case of these words under these declarations.
     pub(super) fn case(&self, words: Vec<u16>) -> Case {
-        let mut case = Case { declared: self.declared.clone(), ..Case::default() };
-        case.hold(words);
-        case
+        Case::new(self.declared.clone(), words)
     }
 
     /// A part of another sort or size.
-    pub(super) fn mistype(&mut self, case: &mut Case) {
-        let words = self.misfit(&case.words);
-        case.hold(words);
+    pub(super) fn mistype(&mut self, lent: &mut Lent) {
+        let words = self.misfit(&lent.words);
+        lent.hold(words);
     }
 
     /// A word changed.
-    pub(super) fn misspell(&mut self, case: &mut Case) {
-        let place = self.rng.below(case.words.len());
-        case.words[place] = self.any_word();
+    pub(super) fn misspell(&mut self, lent: &mut Lent) {
+        let place = self.rng.below(lent.words.len());
+        lent.words[place] = self.any_word();
+    }
+
+    /// Another length told.
+    pub(super) fn mistell(&mut self, lent: &mut Lent) {
+        lent.length = self.rng.below(lent.words.len() + 2);
     }
 
     /// A declaration that breaks a limit or a name, or is not exactly the
     /// indices wanted.
-    pub(super) fn misdeclare(&mut self, case: &mut Case) {
-        let declared = &mut case.declared;
+    pub(super) fn misdeclare(&mut self, declared: &mut Declarations) {
         match self.rng.below(5) {
             0 => declared.types = NAMES + 1,
             1 => declared.bases.resize(NAMES + 1, self.atom()),

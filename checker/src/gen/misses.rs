@@ -2,8 +2,8 @@
 
 use super::terms::Want;
 use super::Gen;
-use crate::case::Case;
 use crate::decl::Declarations;
+use crate::lent::Lent;
 use crate::notation::{Item, Law, SLOTS};
 use crate::rules::{by_number, Rule, Way, RULES};
 use crate::step::Step;
@@ -12,16 +12,25 @@ use crate::words::*;
 
 impl Gen {
     /// Changes one thing about an instance, most often so that it is none.
-    pub(super) fn miss(&mut self, case: &mut Case, step: &mut Step) {
-        let mut words = case.words.clone();
+    pub(super) fn miss(&mut self, lent: &mut Lent, step: &mut Step) {
         match self.rng.below(10) {
+            way @ 0..6 => self.misstep(way, &lent.words, step),
+            _ => {
+                let mut words = lent.words.clone();
+                self.other_part(&mut words, step);
+                lent.hold(words);
+            }
+        }
+    }
+
+    /// Changes one thing about the step of an instance, in one of six ways.
+    pub(super) fn misstep(&mut self, way: usize, words: &[u16], step: &mut Step) {
+        match way {
             0 => step.rule = self.any_rule(step.rule),
             1 => step.rule = self.like_rule(step.rule, head(words[usize::from(step.place)])),
             2 => step.place = self.other_place(words.len(), step.place),
-            3..6 => self.other_indices(step),
-            _ => self.other_part(&mut words, step),
+            _ => self.other_indices(step),
         }
-        case.hold(words);
     }
 
     /// A number that is most often no rule's.
@@ -96,7 +105,7 @@ impl Gen {
 
     /// Puts another part of its sort in the place of one, where one is found.
     /// Half of the time it begins with another word: the others can differ late.
-    fn exchange(&mut self, words: &mut Vec<u16>, at: usize) {
+    pub(super) fn exchange(&mut self, words: &mut Vec<u16>, at: usize) {
         let old = part(words, at).to_vec();
         let early = self.rng.once_in(2);
         let differs = |new: &Vec<u16>| if early { new[0] != old[0] } else { *new != old };

@@ -5,7 +5,8 @@ use super::cases::text;
 use super::layers::deepened;
 use super::terms::Want;
 use super::Gen;
-use crate::case::Case;
+use crate::decl::Declarations;
+use crate::lent::{Case, Lent};
 use crate::rules::RULES;
 use crate::step::{rewrite, Step};
 use crate::words::*;
@@ -29,15 +30,15 @@ impl Gen {
         let mut case = self.case(words);
         match self.rng.below(16) {
             0..5 => {}
-            5..14 => self.miss(&mut case, &mut step),
-            _ => self.refuse(&mut case),
+            5..14 => self.miss(&mut case.lent, &mut step),
+            _ => self.refuse(&mut case.declared, &mut case.lent),
         }
         self.stale(&mut case);
         text(&Case { step: Some(step), ..case })
     }
 
     /// An instance of any rule inside a larger term of some type.
-    fn inside(&mut self) -> (Want, Vec<u16>, Step) {
+    pub(super) fn inside(&mut self) -> (Want, Vec<u16>, Step) {
         let rule = self.rng.pick(&RULES);
         let Some(instance) = self.instance(rule) else {
             return self.inside();
@@ -48,7 +49,7 @@ impl Gen {
     }
 
     /// What a step leaves of a term.
-    fn result(&self, words: &[u16], step: Step) -> Vec<u16> {
+    pub(super) fn result(&self, words: &[u16], step: Step) -> Vec<u16> {
         let mut slice = self.case(words.to_vec()).slice();
         let length = rewrite(&self.declared, &mut slice, words.len(), step, &mut [0; WORDS]);
         slice.truncate(length.unwrap_or(words.len()));
@@ -56,7 +57,7 @@ impl Gen {
     }
 
     /// An instance in a term so deep that the result is about 64 deep.
-    fn deep(&mut self) -> (Vec<u16>, Step) {
+    pub(super) fn deep(&mut self) -> (Vec<u16>, Step) {
         let (want, words, mut step) = self.inside();
         let deep = |words: &[u16]| depth(words).unwrap_or(DEPTH);
         let after = self.rng.within(DEPTH, DEPTH + 1);
@@ -67,7 +68,7 @@ impl Gen {
     }
 
     /// An instance in a term so long that the result has about 4,096 words.
-    fn full(&mut self) -> (Vec<u16>, Step) {
+    pub(super) fn full(&mut self) -> (Vec<u16>, Step) {
         let (want, words, mut step) = self.inside();
         let after = self.rng.within(WORDS - 2, WORDS + 2);
         let before = after + words.len() - self.result(&words, step).len();
@@ -78,7 +79,7 @@ impl Gen {
 
     /// A sum or product with one of its own head in it that together have about
     /// 255 children.
-    fn broad(&mut self) -> (Vec<u16>, Step) {
+    pub(super) fn broad(&mut self) -> (Vec<u16>, Step) {
         let (head, want) = match self.rng.below(3) {
             0 => (ADDS, Want::Scalar),
             1 => (MULS, Want::Scalar),
@@ -98,7 +99,7 @@ impl Gen {
     }
 
     /// A conjugate of a sum that spreads to about 4,096 words.
-    fn long(&mut self) -> (Vec<u16>, Step) {
+    pub(super) fn long(&mut self) -> (Vec<u16>, Step) {
         let longer = self.rng.within(13, 17);
         let mut words = vec![word(CONJ, 0), word(ADDS, 255)];
         for k in 0..255 {
@@ -118,19 +119,19 @@ impl Gen {
     }
 
     /// What is refused with 1, 7, 8, 10 or 11.
-    fn refuse(&mut self, case: &mut Case) {
+    pub(super) fn refuse(&mut self, declared: &mut Declarations, lent: &mut Lent) {
         match self.rng.below(8) {
-            0 => case.size = *self.rng.pick(&[0, 1, case.words.len(), 4095, 4097, 5000]),
-            1 => self.misdeclare(case),
-            2 => self.misspell(case),
-            3 => case.length = self.rng.below(case.words.len() + 2),
-            4 => case.length = self.rng.draw() as usize,
+            0 => lent.size = *self.rng.pick(&[0, 1, lent.words.len(), 4095, 4097, 5000]),
+            1 => self.misdeclare(declared),
+            2 => self.misspell(lent),
+            3 => self.mistell(lent),
+            4 => lent.length = self.rng.draw() as usize,
             // Too deep, which is refused before the type is looked at.
-            5 => case.hold(deepened(&Want::Scalar, &case.words, DEPTH + 1).0),
-            6 => self.mistype(case),
+            5 => lent.hold(deepened(&Want::Scalar, &lent.words, DEPTH + 1).0),
+            6 => self.mistype(lent),
             _ => {
                 let words = self.basis_or_index();
-                case.hold(words);
+                lent.hold(words);
             }
         }
     }
@@ -141,8 +142,8 @@ impl Gen {
         match self.rng.below(4) {
             0 => case.behind = self.any_word(),
             1 => {
-                case.words.extend_from_within(..);
-                case.words.truncate(WORDS);
+                case.lent.words.extend_from_within(..);
+                case.lent.words.truncate(WORDS);
             }
             _ => {}
         }

@@ -60,26 +60,28 @@ impl Gen {
             let want = self.want();
             let fuel = self.rng.within(2, 5);
             let start = self.term(&want, fuel);
-            if let Some((terms, steps)) = self.walk(start, on_left) {
-                let joined = on_left - on_right;
-                return Derivation {
-                    left: terms[0].clone(),
-                    right: terms[joined].clone(),
-                    steps: self.interleave(&steps, &steps[joined..]),
-                };
+            if let Some(steps) = self.walk(start.clone(), on_left) {
+                return self.meeting(start, &steps, on_left - on_right);
             }
         }
     }
 
-    /// So many random steps from a term, and all terms on the way.
-    fn walk(&mut self, start: Vec<u16>, length: usize) -> Option<(Vec<Vec<u16>>, Vec<Step>)> {
+    /// The left takes these steps, the right starts behind so many of them and
+    /// takes the rest.
+    pub(super) fn meeting(&mut self, left: Vec<u16>, steps: &[Step], joined: usize) -> Derivation {
+        let (before, behind) = steps.split_at(joined);
+        let right = before.iter().fold(left.clone(), |words, &step| self.result(&words, step));
+        Derivation { left, right, steps: self.interleave(steps, behind) }
+    }
+
+    /// So many random steps from a term.
+    fn walk(&mut self, start: Vec<u16>, length: usize) -> Option<Vec<Step>> {
         const LARGEST: usize = 300;
         let mut scratch = vec![0; WORDS];
-        let mut terms = vec![start];
+        let mut now = start;
         let mut steps = Vec::new();
         while steps.len() < length {
-            let now = terms.last()?;
-            let moves = self.moves(now);
+            let moves = self.moves(&now);
             let mut next = None;
             for _ in 0..4 {
                 if moves.is_empty() {
@@ -90,7 +92,7 @@ impl Gen {
                     continue;
                 }
                 let mut slice = vec![0; WORDS];
-                slice[..now.len()].copy_from_slice(now);
+                slice[..now.len()].copy_from_slice(&now);
                 let end = rewrite(&self.declared, &mut slice, now.len(), step, &mut scratch);
                 if let Some(end) = end.ok().filter(|&end| end <= LARGEST) {
                     slice.truncate(end);
@@ -100,14 +102,14 @@ impl Gen {
             }
             match next {
                 Some((term, step)) => {
-                    terms.push(term);
+                    now = term;
                     steps.push(step);
                 }
                 None if moves.iter().any(|step| step.rule == 170) => {}
                 None => return None,
             }
         }
-        Some((terms, steps))
+        Some(steps)
     }
 
     fn interleave(&mut self, left: &[Step], right: &[Step]) -> Vec<(Side, Step)> {

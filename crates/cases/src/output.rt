@@ -1,4 +1,5 @@
 // Writes answers to standard output, as decimal numbers with a space between them.
+use crate::input::front;
 use libc::STDOUT_FILENO;
 
 // A byte; a number that is none is not written.
@@ -35,4 +36,23 @@ pub fn also_words(ws: &[u16]) {
         also(wide(ws[i]));
         i += 1;
     }
+}
+
+// How many words there are up to the last that is not zero.
+fn used(ws: &[u16]) -> usize {
+    let mut n = ws.len();
+    while n > 0 {
+        if ws[n - 1] != 0 {
+            return n;
+        }
+        n -= 1;
+    }
+    0
+}
+
+// How many words a slice has up to the last that is not zero, and these. So all its words are told: those behind are zeros.
+pub fn also_slice(ws: &[u16]) {
+    let n = used(ws);
+    also(n);
+    also_words(front(ws, n));
 }

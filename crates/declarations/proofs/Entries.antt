@@ -11,6 +11,8 @@ use borrow.Author.Tests.{eq-eqb, ne-eqb, ltb-true, leb-true, eqb-true}
 use lib.Dec.{ltb, leb, eqb}
 use lib.ListN.{length, take, drop, getD, getElem?, drop-of-length-le, length-append, length-drop}
 use lib.Seq.{drop-cons, take-length, length-take-le}
+use Rattle.words.specs.Listed.{upTo, allUpTo}
+use Rattle.words.proofs.Listed.{upTo-at, length-upTo, allUpTo-at}
 use Rattle.term.specs.Heads.{Label, type-name, index-product, labelled, word, heads, reading, read}
 use Rattle.term.specs.Trees.{Tree, Forest, node, none, _▹_, count, words, words*, Formed, Formed*}
 use Rattle.term.specs.Parts.{parse, first, part, treeIn}
@@ -19,46 +21,7 @@ use Rattle.term.proofs.Parsing.{accepted}
 use Rattle.term.proofs.Scan.{part-front}
 use Rattle.types.specs.Sorts.{scalar, ket, bra, operator, index, Context, countsOf, Short}
 use Rattle.types.specs.Rules.{_⊢_∶_, type-var, base-prod, Index, Proper, IsType, WellFormed}
-use Rattle.declarations.specs.Declarations.{size, upTo, allUpTo, counted, indexWord, indexWords, indexIn, typeIn, basisAt, variableAt, basisIn, variableIn, contextIn, namesIn, goodIndex, isIndex, isVariable, goodBasis, goodVariable, goodDeclarations}
-
--- ---- items and tests by their numbers
-pub upTo-at : {A : Type 0} (n : ℕ) (f : ℕ → A) (a : ℕ) → a < n → getElem? (upTo n f) a ≡ O.some (f a)
-unfolding upTo
-upTo-at zero f a h = absurd (omega arith)
-upTo-at (suc n) f zero h = refl
-upTo-at (suc n) f (suc a) h = upTo-at n (λ k. f (suc k)) a (omega arith)
-
-pub upTo-past : {A : Type 0} (n : ℕ) (f : ℕ → A) (a : ℕ) → n ≤ a → getElem? (upTo n f) a ≡ O.none
-unfolding upTo
-upTo-past zero f a h = refl
-upTo-past (suc n) f zero h = absurd (omega arith)
-upTo-past (suc n) f (suc a) h = upTo-past n (λ k. f (suc k)) a (omega arith)
-
-pub length-upTo : {A : Type 0} (n : ℕ) (f : ℕ → A) → length (upTo n f) ≡ n
-unfolding upTo
-length-upTo zero f = refl
-length-upTo (suc n) f = ap suc (length-upTo n λ k. f (suc k))
-
-pub allUpTo-at : (n : ℕ) (f : ℕ → Bool) → allUpTo n f ≡ true → (a : ℕ) → a < n → f a ≡ true
-unfolding allUpTo
-allUpTo-at zero f e a h = absurd (omega arith)
-allUpTo-at (suc n) f e zero h = and-eq-true-iff (f 0) _ .0 e .0
-allUpTo-at (suc n) f e (suc a) h = allUpTo-at n (λ k. f (suc k)) (and-eq-true-iff (f 0) _ .0 e .1) a (omega arith)
-
-pub allUpTo-all : (n : ℕ) (f : ℕ → Bool) → ((a : ℕ) → a < n → f a ≡ true) → allUpTo n f ≡ true
-unfolding allUpTo
-allUpTo-all zero f h = refl
-allUpTo-all (suc n) f h = rw (h 0 (omega arith)) (allUpTo-all n (λ k. f (suc k)) λ a l. h (suc a) (omega arith))
-
-and-false : (b : Bool) → (b && false) ≡ false
-and-false true = refl
-and-false false = refl
-
-pub allUpTo-fails : (n : ℕ) (f : ℕ → Bool) (a : ℕ) → a < n → f a ≡ false → allUpTo n f ≡ false
-unfolding allUpTo
-allUpTo-fails zero f a h e = absurd (omega arith)
-allUpTo-fails (suc n) f zero h e = rw e
-allUpTo-fails (suc n) f (suc a) h e = rw (allUpTo-fails n (λ k. f (suc k)) a (omega arith) e) (and-false (f 0))
+use Rattle.declarations.specs.Declarations.{size, counted, indexWord, indexWords, indexIn, typeIn, basisAt, variableAt, basisIn, variableIn, contextIn, namesIn, goodIndex, isIndex, isVariable, goodBasis, goodVariable, goodDeclarations}
 
 -- ---- the words of an index, one after the other
 module _ (N : ℕ) (ws : List ℕ) (i : ℕ) where
@@ -311,7 +274,7 @@ module _ (ds : List ℕ) (a : ℕ) where
   kind-3 e = rw e
 
 -- ---- good declarations make a well-formed context
-upTo-some : {A : Type 0} (n : ℕ) (f : ℕ → A) (a : ℕ) (x : A) → getElem? (upTo n f) a ≡ O.some x → (a < n) × (f a ≡ x)
+pub upTo-some : {A : Type 0} (n : ℕ) (f : ℕ → A) (a : ℕ) (x : A) → getElem? (upTo n f) a ≡ O.some x → (a < n) × (f a ≡ x)
 unfolding upTo
 upTo-some zero f a x e = absurd (let z : _≡_ {A = ℕ} 0 1 = cc in omega arith)
 upTo-some (suc n) f zero x e = (omega arith, cc)

@@ -2,15 +2,16 @@
 use mathlib.Core.Path.{_≡_, refl}
 use mathlib.Core.Bool.{true}
 use mathlib.Core.List.{List, [], _∷_, _++_}
-use Prim.Native.Nat.{ℕ, zero, suc, _<_}
+use Prim.Native.Nat.{ℕ}
 use native.Mathlib.Numerals.{add-one}
 use native.Mathlib.Omega.{arith}
 use lib.ListN.{length, getD}
+use Rattle.words.proofs.Listed.{upTo-same, upTo-more}
 use Rattle.term.specs.Trees.{Tree}
 use Rattle.term.specs.Parts.{parse, treeIn}
 use Rattle.types.specs.Sorts.{Sort, Context}
 use Rattle.declarations.specs.declared.constructor.Put.the-variants.{Done}
-use Rattle.declarations.specs.Declarations.{size, upTo, typeIn, contextIn, isIndex, isVariable, goodDeclarations}
+use Rattle.declarations.specs.Declarations.{size, typeIn, contextIn, isIndex, isVariable, goodDeclarations}
 use Rattle.declarations.specs.Put.{started, room, basisPut, variablePut}
 use Rattle.declarations.proofs.Kept.{basis-tree, variable-type, basis-kept, variable-kept, basis-put-kept, basis-put-new, variable-put-kept, variable-put-new, started-types, started-none}
 
@@ -23,17 +24,6 @@ withVariable Γ S = record { types = Γ .types; bases = Γ .bases; variables = �
 
 context-same : {Γ Δ : Context} → Γ .types ≡ Δ .types → Γ .bases ≡ Δ .bases → Γ .variables ≡ Δ .variables → Γ ≡ Δ
 context-same p q r = λ i. record { types = p i; bases = q i; variables = r i }
-
--- ---- the items of 0 .. n − 1 where each is the same, and with one more behind them
-upTo-same : {A : Type 0} (n : ℕ) {f g : ℕ → A} → ((k : ℕ) → k < n → f k ≡ g k) → upTo n f ≡ upTo n g
-unfolding upTo
-upTo-same zero h = refl
-upTo-same (suc n) h = let r = upTo-same n (λ k l. h (suc k) (omega arith)) in rw (h 0 (omega arith), r)
-
-upTo-more : {A : Type 0} (n : ℕ) {f g : ℕ → A} {x : A} → ((k : ℕ) → k < n → f k ≡ g k) → f n ≡ x → upTo (suc n) f ≡ upTo n g ++ x ∷ []
-unfolding upTo
-upTo-more zero h e = rw e
-upTo-more (suc n) h e = let r = upTo-more n (λ k l. h (suc k) (omega arith)) e in rw (h 0 (omega arith), r)
 
 -- ---- the contexts
 pub started-context : (ds : List ℕ) (types : ℕ) → length ds ≡ size → contextIn (started ds types) ≡ record { types = types; bases = []; variables = [] }

@@ -14,10 +14,11 @@ use Rattle.term.specs.Parts.{parse, treeIn}
 use Rattle.term.specs.Terms.{maxIndex, maxNames}
 use Rattle.words.specs.Words.{cleared}
 use Rattle.words.proofs.Runs.{length-cleared}
+use Rattle.words.proofs.Listed.{allUpTo-all}
 use Rattle.declarations.specs.declared.constructor.Put.the-variants.{Done}
 use Rattle.declarations.specs.Declarations.{size, basisAt, variableAt, typeIn, basisIn, variableIn, goodIndex, isIndex, isVariable, goodBasis, goodVariable, goodDeclarations}
 use Rattle.declarations.specs.Put.{started, room, basisPut, variablePut}
-use Rattle.declarations.proofs.Entries.{allUpTo-all, index-tests, basisLen, basisWords, kind, firstLen, secondLen, firstWords, secondWords, GoodDeclarations, declarations, basis-good, variable-good}
+use Rattle.declarations.proofs.Entries.{index-tests, basisLen, basisWords, kind, firstLen, secondLen, firstWords, secondWords, GoodDeclarations, declarations, basis-good, variable-good}
 use Rattle.declarations.proofs.Put.{room-done, variable-few}
 use Rattle.declarations.proofs.Stores.{Same, same-then, same-part, same-word, same-first, Apart, before, behind, sets-before, sets-apart, sets-inside}
 

@@ -8,9 +8,10 @@
 -- Words that no entry's length takes in are not looked at.
 use mathlib.Core.Bool.{Bool, true, cond, _&&_}
 use mathlib.Core.List.{List, [], _∷_}
-use Prim.Native.Nat.{ℕ, zero, suc, _+_, _*_, _/_, _%_}
+use Prim.Native.Nat.{ℕ, _+_, _*_, _/_, _%_}
 use lib.Dec.{eqb, leb, ltb}
 use lib.ListN.{length, getD, take, drop}
+use Rattle.words.specs.Listed.{upTo, allUpTo}
 use Rattle.term.specs.declared.terms.Names.{Names}
 use Rattle.term.specs.Trees.{Tree}
 use Rattle.term.specs.Parts.{parse, part, treeIn}
@@ -30,11 +31,6 @@ variableAt a = 2051 + a * 129
 unfoldable pub indexIn : List ℕ → ℕ → ℕ → Tree
 unfolding treeIn parse
 indexIn ds at n = treeIn (parse (take n (drop at ds)))
-
--- the items of 0 .. n − 1
-unfoldable pub upTo : {A : Type 0} → ℕ → (ℕ → A) → List A
-upTo zero f = []
-upTo (suc n) f = f 0 ∷ upTo n λ k. f (suc k)
 
 -- the type of a variable, by its kind
 unfoldable pub typeIn : ℕ → Tree → Tree → Sort
@@ -94,11 +90,6 @@ goodVariable ds a =
     leb n maxIndex
     && (leb m maxIndex
     && isVariable (getD ds 0 0) (getD ds at 0) (take n (drop (at + 3) ds)) (take m (drop (at + 66) ds)))
-
--- a test that all of 0 .. n − 1 pass
-unfoldable pub allUpTo : ℕ → (ℕ → Bool) → Bool
-allUpTo zero f = true
-allUpTo (suc n) f = f 0 && allUpTo n λ k. f (suc k)
 
 -- "Names are 0 to 31": no count is above 32
 unfoldable pub counted : ℕ → ℕ → ℕ → Bool

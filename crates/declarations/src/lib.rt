@@ -8,7 +8,8 @@ ghost use mathlib.Core.Bool.{true, cond};
 ghost use Prim.Native.Nat.{_+_, _≤_, _<_};
 ghost use lib.Dec.{eqb};
 ghost use lib.ListN.{length, getD};
-ghost use Rattle.declarations.specs.Declarations.{indexWord, indexWords, isIndex, isVariable, goodBasis, goodVariable, allUpTo, counted, goodDeclarations, namesIn};
+ghost use Rattle.words.specs.Listed.{allUpTo};
+ghost use Rattle.declarations.specs.Declarations.{indexWord, indexWords, isIndex, isVariable, goodBasis, goodVariable, counted, goodDeclarations, namesIn};
 
 // The words of all declarations, used or not.
 pub const SIZE: usize = 6179;

@@ -10,18 +10,13 @@ use borrow.Author.Tests.{le-leb, eq-eqb, ne-eqb, ltb-true}
 use lib.Dec.{eqb}
 use lib.ListN.{length, take, drop, length-append, length-map}
 use Rattle.term.specs.Heads.{read, word}
-use Rattle.term.specs.Parts.{parse, treeIn}
 use Rattle.term.specs.Terms.{maxChildren}
 use Rattle.term.specs.Trees.{Tree, Forest, node, none as no-tree, _▹_, count, words, words*, Formed}
 use Rattle.types.specs.Sorts.{Sort, index, basis, scalar, ket, bra, operator, Context}
-use Rattle.types.specs.Rules.{WellFormed}
-use Rattle.types.specs.TypeOf.{Typed, typed, untyped, typeOf}
-use Rattle.declarations.specs.Declarations.{contextIn}
-use Rattle.typing.specs.declared.terms.Sizes as Z
-use Rattle.typing.specs.declared.terms.Typing as A
-use Rattle.typing.proofs.Theorems.{part-entry}
-use Rattle.typing.specs.Answers.{partTypingOf, sizesOf, refuse, typing, typeRecord, answerOf}
-use Rattle.rules.specs.Patterns.{Pattern, #_, first, second, _⟨⟩, _⟨_⟩, _⟨_∣_⟩, sortIn, sortOf, fill}
+use Rattle.types.specs.Rules.{_⊢_∶_, WellFormed}
+use Rattle.types.specs.TypeOf.{typeOf}
+use Rattle.types.proofs.Complete.{complete}
+use Rattle.rules.specs.Patterns.{Pattern, #_, first, second, _⟨⟩, _⟨_⟩, _⟨_∣_⟩, sortOf, fill}
 use Rattle.rules.specs.Table.{Kind, any, a-ket, a-bra, an-operator, wanted, Rule, _⇒_▷_, spreading, removing, absorbing, merging, collecting, swapping, ruleOf}
 use Rattle.rules.specs.Rewrite.{match, holes, filled, rewrite}
 use Rattle.rules.specs.Steps.{few, few*}
@@ -33,13 +28,13 @@ use Rattle.rulebook.specs.declared.Row.{Row}
 use Rattle.rulebook.specs.Rows.{kindNumber, patternWords, allWords}
 use Rattle.rulebook.proofs.Rows.{sides-at, sides-inside, kind-at}
 use Rattle.step.specs.declared.matching.Match.{Match}
-use Rattle.step.specs.Code.Matching.{matchFrom, startOf, Holds, Matched, is-match, no-match}
-use Rattle.step.specs.Code.Building.{chosenIndex, allAsk, Caught}
+use Rattle.step.specs.Code.Matching.{matchFrom, Holds, Matched, is-match, no-match}
+use Rattle.step.specs.Code.Building.{chosenIndex, allAsk}
+use Rattle.step.specs.Code.Shapes.{kindOf}
 use Rattle.step.specs.Code.Site.{Equation}
 use Rattle.step.proofs.Left.{childrenIn, headWord, made, no-context, left-words}
-use Rattle.step.proofs.Pieces.{caught-tree, caught-part, caught-shallow}
 use Rattle.step.proofs.Right.{ask-words}
-use Rattle.step.proofs.Indices.{shorts, held-index, held-short}
+use Rattle.step.proofs.Indices.{chosen-short}
 
 -- ---- every equation of the table is made as the code reads it
 madeRule : Rule → Bool
@@ -147,7 +142,7 @@ mutual
       rw (few-short t (omega arith)) (few-short* f (omega arith))
 
 few-index : (Γ : Context) → WellFormed Γ → (b : Bool) (t : Tree) → few (chosenIndex b (sortOf Γ t)) ≡ true
-few-index Γ W b t = few-short (chosenIndex b (sortOf Γ t)) (omega (arith, held-short (held-index 0 0 (typeOf Γ 0 t) (shorts W t (typeOf Γ 0 t) refl) b)))
+few-index Γ W b t = few-short (chosenIndex b (sortOf Γ t)) (omega (arith, chosen-short W b t (typeOf Γ 0 t) refl))
 
 pub few-fill : (Γ : Context) → WellFormed Γ → (c : List Tree) → AllFormed c → (p : Pattern) → few (fill Γ (holes c) p) ≡ true
 unfolding few count
@@ -181,31 +176,27 @@ module _ (Γ : Context) (k : Kind) (l r : Pattern) (t : Tree) where
     unfolding rewrite filled
     equated d h w = rw (eq-eqb i 0 e, eq-eqb j 0 f, h, w)
 
--- ---- the kind of a part by the number that typing answers
-kind-number : (n d : ℕ) (T : Typed) (k : Kind) → kindNumber k ≢ 0 → eqb (sizesOf (answerOf n d T .of .kind) .number) (kindNumber k) ≡ wanted k (sortIn T)
-unfolding answerOf refuse typing typeRecord
-kind-number n d T any h = absurd (h refl)
-kind-number n d (untyped m) a-ket h = refl
-kind-number n d (typed (index σ)) a-ket h = refl
-kind-number n d (typed (basis σ)) a-ket h = refl
-kind-number n d (typed scalar) a-ket h = refl
-kind-number n d (typed (ket σ)) a-ket h = refl
-kind-number n d (typed (bra σ)) a-ket h = refl
-kind-number n d (typed (operator σ τ)) a-ket h = refl
-kind-number n d (untyped m) a-bra h = refl
-kind-number n d (typed (index σ)) a-bra h = refl
-kind-number n d (typed (basis σ)) a-bra h = refl
-kind-number n d (typed scalar) a-bra h = refl
-kind-number n d (typed (ket σ)) a-bra h = refl
-kind-number n d (typed (bra σ)) a-bra h = refl
-kind-number n d (typed (operator σ τ)) a-bra h = refl
-kind-number n d (untyped m) an-operator h = refl
-kind-number n d (typed (index σ)) an-operator h = refl
-kind-number n d (typed (basis σ)) an-operator h = refl
-kind-number n d (typed scalar) an-operator h = refl
-kind-number n d (typed (ket σ)) an-operator h = refl
-kind-number n d (typed (bra σ)) an-operator h = refl
-kind-number n d (typed (operator σ τ)) an-operator h = refl
+-- ---- the kind that a rule wants of hole 0
+kind-wanted-by : (S : Sort) (k : Kind) → kindNumber k ≢ 0 → eqb (kindOf S) (kindNumber k) ≡ wanted k S
+kind-wanted-by S any h = absurd (h refl)
+kind-wanted-by (index σ) a-ket h = refl
+kind-wanted-by (basis σ) a-ket h = refl
+kind-wanted-by scalar a-ket h = refl
+kind-wanted-by (ket σ) a-ket h = refl
+kind-wanted-by (bra σ) a-ket h = refl
+kind-wanted-by (operator σ τ) a-ket h = refl
+kind-wanted-by (index σ) a-bra h = refl
+kind-wanted-by (basis σ) a-bra h = refl
+kind-wanted-by scalar a-bra h = refl
+kind-wanted-by (ket σ) a-bra h = refl
+kind-wanted-by (bra σ) a-bra h = refl
+kind-wanted-by (operator σ τ) a-bra h = refl
+kind-wanted-by (index σ) an-operator h = refl
+kind-wanted-by (basis σ) an-operator h = refl
+kind-wanted-by scalar an-operator h = refl
+kind-wanted-by (ket σ) an-operator h = refl
+kind-wanted-by (bra σ) an-operator h = refl
+kind-wanted-by (operator σ τ) an-operator h = refl
 
 pub any-kind : (S : Sort) (k : Kind) → kindNumber k ≡ 0 → true ≡ wanted k S
 any-kind S any e = refl
@@ -213,8 +204,6 @@ any-kind S a-ket e = absurd (omega arith)
 any-kind S a-bra e = absurd (omega arith)
 any-kind S an-operator e = absurd (omega arith)
 
-pub wanted-by : {ds term : List ℕ} {at : ℕ} {m : Match} {d : List Tree} → Caught ds term at m d → (k : Kind) (kind : ℕ) → kind ≡ kindNumber k → kind ≢ 0 → 0 < m .held
-    → (r : A.Typing) → r ≡ partTypingOf ds term (at + startOf m 0) → (z : Z.Sizes) → z ≡ sizesOf (r .of .kind) → eqb (z .number) kind ≡ wanted k (sortOf (contextIn ds) (holes d 0))
-wanted-by {ds} {term} {at} {m} h k kind e other first-met r f z g =
-    rw (g, f, part-entry ds term (at + startOf m 0) (h .good) (caught-part h 0 first-met) (caught-shallow h 0 first-met), e, ← caught-tree h 0 first-met)
-    (kind-number _ _ (typeOf (contextIn ds) 0 (treeIn (parse (drop (at + startOf m 0) term)))) k (λ x. other (e ∙ x)))
+-- the number that was read off it, of its sort
+pub wanted-by : (Γ : Context) (t : Tree) (S : Sort) → Γ ⊢ t ∶ S → (k : Kind) (kind n : ℕ) → kind ≡ kindNumber k → kind ≢ 0 → n ≡ kindOf S → eqb n kind ≡ wanted k (sortOf Γ t)
+wanted-by Γ t S d k kind n e other f = rw (f, e, complete Γ d 0) (kind-wanted-by S k (λ x. other (e ∙ x)))

@@ -11,25 +11,18 @@ use Rattle.term.specs.Terms.{maxWords}
 use Rattle.term.specs.Trees.{Tree, words, depth}
 use Rattle.term.proofs.Parsing.{parse-tree}
 use Rattle.types.specs.Rules.{IsType}
-use Rattle.types.specs.Sorts.{Sort, scalar, ket, bra, operator}
-use Rattle.types.specs.TypeOf as T
+use Rattle.types.specs.Sorts.{Sort}
 use Rattle.declarations.specs.Declarations.{contextIn, goodDeclarations}
 use Rattle.declarations.proofs.Entries.{counts-in}
 use Rattle.typing.specs.declared.terms.Typing as A
-use Rattle.typing.specs.Answers.{typing, answerOf, typingOf, TypedTerm}
+use Rattle.typing.specs.Answers.{typingOf, TypedTerm}
 use Rattle.typing.proofs.Theorems.{complete-entry}
+use Rattle.lent.proofs.Judging.{type-code}
 use Rattle.rules.specs.Steps.{stepOf}
 use Rattle.rules.specs.Statements.{Typed}
-use Rattle.step.specs.declared.single.Step.{Step}
-use Rattle.step.specs.Answers.{asked, held, stepIn}
-
--- a type is accepted
-type-code : (n d : ℕ) (S : Sort) → IsType S → answerOf n d (T.typed S) .code ≡ 0
-unfolding answerOf typing
-type-code n d scalar h = refl
-type-code n d (ket σ) h = refl
-type-code n d (bra σ) h = refl
-type-code n d (operator σ τ) h = refl
+use Rattle.lent.specs.declared.steps.Step.{Step}
+use Rattle.lent.specs.Lent.{asked}
+use Rattle.step.specs.Answers.{held, stepIn}
 
 module _ {ds ws : List ℕ} {n : ℕ} {t : Tree} {S : Sort} (h : TypedTerm ds ws n t S) where
   pub accepted-code : typingOf ds ws n .code ≡ 0

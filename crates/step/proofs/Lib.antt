@@ -14,6 +14,9 @@ mod Merged
 mod Swapped
 mod Walks
 mod Left
+mod Declared
+mod Sides
+mod Beginnings
 mod Indices
 mod Pieces
 mod Right
@@ -32,4 +35,8 @@ mod Putting
 mod Stepped
 mod Held
 mod Taking
+mod Moving
+mod Begun
+mod Courses
 pub mod Theorems
+pub mod RunTheorems

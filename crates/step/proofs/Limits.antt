@@ -9,14 +9,16 @@ use borrow.Author.Tests.{lt-ltb, le-ltb, le-leb, lt-leb}
 use lib.Dec.{ltb, leb}
 use lib.ListN.{length, take, drop, length-append, length-drop}
 use Rattle.words.specs.Words.{Added}
-use Rattle.term.specs.Trees.{Tree, Forest, node, none, _▹_, count, words, depth, replace, replace*, level}
+use Rattle.term.specs.Trees.{Tree, Forest, node, none, _▹_, count, words, words*, depth, depth*, replace, replace*, level, level*}
+use Rattle.term.specs.Parts.{parse, first, part}
 use Rattle.term.specs.Terms.{maxWords, maxDepth, maxChildren, firstDepth, partDepth, levelAt}
 use Rattle.term.proofs.Parsing.{parse-tree, prefix-free}
-use Rattle.term.proofs.Places.{place, subtree-inside, subtree-formed, replace-formed, words-replace, length-replace, level-replace, depth-replace, level-words}
+use Rattle.term.proofs.Scan.{part-length}
+use Rattle.term.proofs.Places.{place, subtree-inside, subtree-formed, replace-formed, words-replace, length-replace, level-replace, depth-replace, level-words, part-there}
 use Rattle.rules.specs.Steps.{few, few*, within, limited}
 use Rattle.rules.proofs.Formed.{formed-few}
 use Rattle.step.specs.declared.writing.Rewritten.{Rewritten}
-use Rattle.step.specs.Code.Making.{Fresh, Made}
+use Rattle.step.specs.Code.Making.{Seated, Fresh, Made}
 
 -- ---- few children at each node: of the whole where they are few in the new part
 count-kept : (f : Forest) (k : ℕ) (u : Tree) → count (replace* f k u) ≡ count f
@@ -64,6 +66,70 @@ module _ (t u : Tree) where
   unfolding limited within
   in-limits f h d = rw (f, le-leb (length (words u)) maxWords h, le-leb (depth u) maxDepth d)
 
+-- ---- a place is at most as many levels down as words stand before it
+mutual
+  unfolding level words
+
+  level-below : (t : Tree) (k : ℕ) → level t k ≤ k
+  level-below (node l cs) zero = omega arith
+  level-below (node l cs) (suc k) = omega (arith, level-below* cs k)
+
+  level-below* : (f : Forest) (k : ℕ) → level* f k ≤ k
+  level-below* none k = omega arith
+  level-below* (t ▹ f) k =
+      elim (decLt k (length (words t))) [
+        | yes d ↦ rw (lt-ltb k (length (words t)) d) (level-below t k)
+        | no d ↦ rw (le-ltb k (length (words t)) (omega arith)) (omega (arith, level-below* f (k - length (words t))))
+      ]
+
+-- ---- a part is no deeper than it has words
+mutual
+  unfolding depth words
+
+  depth-few : (t : Tree) → depth t ≤ length (words t)
+  depth-few (node l cs) = omega (arith, depth-few* cs)
+
+  depth-few* : (f : Forest) → depth* f ≤ length (words* f)
+  depth-few* none = omega arith
+  depth-few* (t ▹ f) = omega (arith, depth-few t, depth-few* f, length-append (words t) (words* f))
+
+first-few : (f : Forest) → firstDepth f ≤ length (first f)
+unfolding firstDepth first
+first-few none = omega arith
+first-few (t ▹ f) = depth-few t
+
+pub part-shallow : (ws : List ℕ) → partDepth ws 0 ≤ length ws
+unfolding partDepth part
+part-shallow ws = omega (arith, first-few (parse (drop 0 ws)), part-length ws 0)
+
+-- ---- a part in its place
+module _ {term : List ℕ} {at : ℕ} (f : Seated term at) where
+  seat-inside : at < length (words (f .tree))
+  seat-inside = subtree-inside (f .tree) at (f .part) (f .there)
+
+  pub seat-level : levelAt term at ≡ level (f .tree) at
+  seat-level = rw (← f .is) (level-words (f .tree) at (f .formed) seat-inside)
+
+  pub seat-below : levelAt term at ≤ at
+  seat-below = rw seat-level (level-below (f .tree) at)
+
+  -- the part in its own place is the term itself
+  same-replaced : replace (f .tree) at (f .part) ≡ f .tree
+  same-replaced =
+      let p = place (f .tree) at seat-inside in
+      let x : p .here ≡ f .part = cc in
+      let w : words (replace (f .tree) at (f .part)) ≡ words (f .tree) = rw (← x) (p .replaced (p .here) ∙ sym (p .whole)) in
+      prefix-free _ _ (replace-formed (f .tree) at (f .part) (f .formed) (subtree-formed (f .tree) at (f .part) (f .formed) (f .there))) (f .formed) [] [] (ap (λ (ws : List ℕ). ws ++ []) w)
+
+  seat-depth : partDepth term at ≡ depth (f .part)
+  unfolding partDepth firstDepth
+  seat-depth = rw (← f .is, part-there (f .tree) at (f .part) (f .formed) (f .there) .1)
+
+  pub seat-fits : levelAt term at + partDepth term at ≤ maxDepth
+  seat-fits =
+      let d = ap depth same-replaced in
+      omega (arith, level-replace (f .tree) at (f .part) seat-inside, f .shallow, seat-level, seat-depth)
+
 -- ---- a fresh part in its term
 module _ {term : List ℕ} {at end : ℕ} {out : List ℕ} {new : ℕ} (f : Fresh term at end out new) where
   abbrev whole : Tree
@@ -99,19 +165,12 @@ module _ {term : List ℕ} {at end : ℕ} {out : List ℕ} {new : ℕ} (f : Fres
   unfolding partDepth firstDepth
   result-depth h = rw (f .written h, parse-tree (f .result) (f .result-formed))
 
+  pub seated : Seated term at
+  seated = record { tree = f .tree; is = f .is; formed = f .formed; shallow = f .shallow; part = f .part; there = f .there }
+
   pub place-level : levelAt term at ≡ level (f .tree) at
-  place-level = rw (← f .is) (level-words (f .tree) at (f .formed) inside)
-
-  -- the part in its own place is the term itself
-  same-replaced : replace (f .tree) at (f .part) ≡ f .tree
-  same-replaced =
-      let p = place (f .tree) at inside in
-      let x : p .here ≡ f .part = cc in
-      let w : words (replace (f .tree) at (f .part)) ≡ words (f .tree) = rw (← x) (p .replaced (p .here) ∙ sym (p .whole)) in
-      prefix-free _ _ (replace-formed (f .tree) at (f .part) (f .formed) (subtree-formed (f .tree) at (f .part) (f .formed) (f .there))) (f .formed) [] [] (ap (λ (ws : List ℕ). ws ++ []) w)
-
-  pub level-small : level (f .tree) at ≤ maxDepth
-  level-small = let d = ap depth same-replaced in omega (arith, level-replace (f .tree) at (f .part) inside, f .shallow)
+  unfolding seated
+  place-level = seat-level seated
 
   -- ---- the four ends
   refused-made : (out′ : List ℕ) (r : Rewritten) → limited (f .tree) whole ≡ record { code = 23; tree = f .tree } → length out′ ≡ maxWords → r .code ≡ 23 → Made (f .tree) (limited (f .tree) whole) at out′ r

@@ -11,15 +11,16 @@ use lib.Dec.{eqb}
 use lib.ListN.{length, take, drop, getD, length-drop}
 use lib.Seq.{take-all, getD-take, getD-drop, length-take-le}
 use Rattle.term.specs.Trees.{Tree, words}
-use Rattle.term.specs.Parts.{parse, first, part, treeIn}
-use Rattle.term.specs.Terms.{maxDepth, firstDepth, partDepth}
-use Rattle.term.proofs.Parsing.{some-words}
+use Rattle.term.specs.Parts.{parse, treeIn}
+use Rattle.term.specs.Terms.{maxDepth}
 use Rattle.types.specs.Sorts.{Context}
 use Rattle.rules.specs.Patterns.{sortOf}
 use Rattle.rules.specs.Rewrite.{holes}
 use Rattle.step.specs.declared.matching.Match.{Match}
 use Rattle.step.specs.Code.Matching.{startOf, endOf}
 use Rattle.step.specs.Code.Building.{chosenIndex, piece, pieces, asks, allAsk, Caught}
+use Rattle.step.specs.Code.Shapes.{Begins, Sorted, HasKind}
+use Rattle.step.proofs.Beginnings.{begins-tree, tail-begins}
 
 -- ---- one word
 module _ (Γ : Context) (c : List Tree) (w : ℕ) where
@@ -53,16 +54,17 @@ module _ {ds term : List ℕ} {place : ℕ} {m : Match} {c : List Tree} (h : Cau
   caught-run = let z : place + endOf m k - (place + startOf m k) ≡ endOf m k - startOf m k = omega arith in rw z (h .are k met-tree)
 
   pub caught-tree : treeIn (parse (drop (place + startOf m k) term)) ≡ holes c k
-  unfolding treeIn
-  caught-tree = rw (h .there k met-tree .1)
+  caught-tree = begins-tree (h .begins k met-tree)
 
-  pub caught-part : 0 < length (part term (place + startOf m k))
-  unfolding part first
-  caught-part = rw (h .there k met-tree .1) (some-words (holes c k))
+  -- it is typed, and stands at the front of the words from there on
+  pub caught-sorted : Sorted ds (holes c k)
+  caught-sorted = h .sorted k met-tree
 
-  pub caught-shallow : partDepth term (place + startOf m k) ≤ maxDepth
-  unfolding partDepth firstDepth
-  caught-shallow = rw (h .there k met-tree .1) (h .shallow k met-tree)
+  pub caught-tail : Begins (take (length term - (place + startOf m k)) (drop (place + startOf m k) term)) maxDepth (holes c k)
+  caught-tail = tail-begins term (place + startOf m k) (h .begins k met-tree)
+
+  pub caught-kind : HasKind ds (drop (place + startOf m k) term) maxDepth
+  caught-kind = (h .good, (holes c k, h .begins k met-tree, h .sorted k met-tree))
 
 -- ---- the whole walk: what was written are the pieces of the words that were passed
 pieces-more : (Γ : Context) (c : List Tree) (ws : List ℕ) (k : ℕ) → k < length ws → pieces Γ c (take k ws) ++ piece Γ c (getD ws k 0) ≡ pieces Γ c (take (suc k) ws)

@@ -1,19 +1,72 @@
 -- A result put into its slice, with zeros behind.
-use mathlib.Core.Path.{_≡_, sym, _∙_, ap}
+use mathlib.Core.Path.{_≡_, refl, sym, _∙_, ap}
 use mathlib.Core.List.{List, _++_, append-assoc}
-use Prim.Native.Nat.{ℕ, _+_, _-_, _≤_, min}
+use Prim.Native.Nat.{ℕ, zero, suc, _+_, _-_, _≤_, min}
+use native.Mathlib.Decide.{decLe}
 use native.Mathlib.Omega.{arith}
-use lib.ListN.{length, take, drop, replicate, length-append, length-take, length-drop}
-use lib.Seq.{take-at}
+use lib.ListN.{length, take, drop, replicate, length-append, length-take, length-drop, take-append-drop, replicate-append-replicate}
+use lib.Seq.{take-at, take-take, length-take-le, drop-drop, drop-append-add}
 use Rattle.words.specs.Words.{cleared, laid}
-use Rattle.words.proofs.Runs.{laid-in}
+use Rattle.words.proofs.Runs.{laid-in, cleared-end, length-cleared}
 
-pub put-words : (ws : List ℕ) (at : ℕ) (src mid : List ℕ) (e : ℕ) → at + length src ≤ length ws → e ≡ min (at + length src) (length ws + 1) → mid ≡ laid ws at src
-    → cleared mid e ≡ take at ws ++ (src ++ replicate (length ws - (at + length src)) 0)
+-- ---- zeros behind an offset
+drop-zeros : (k n : ℕ) → drop {A = ℕ} k (replicate n 0) ≡ replicate (n - k) 0
+drop-zeros zero n = let z : n - 0 ≡ n = omega arith in rw z
+drop-zeros (suc k) zero = let z : 0 - suc k ≡ 0 = omega arith in rw z
+drop-zeros (suc k) (suc n) = let z : suc n - suc k ≡ n - k = omega arith in rw z (drop-zeros k n)
+
+zeros-from : (ws : List ℕ) (old k : ℕ) → cleared ws old ≡ ws → old ≤ k → k ≤ length ws → drop k ws ≡ replicate (length ws - k) 0
 unfolding cleared
-put-words ws at src mid e h f g =
-    let n : e ≡ at + length src = omega arith in
-    let w : mid ≡ (take at ws ++ src) ++ drop (at + length src) ws = g ∙ laid-in ws at src h ∙ sym (append-assoc (take at ws) src (drop (at + length src) ws)) in
-    let l : length (take at ws ++ src) ≡ at + length src = length-append (take at ws) src ∙ omega (arith, length-take at ws) in
-    let m : length mid ≡ length ws = ap length w ∙ length-append (take at ws ++ src) (drop (at + length src) ws) ∙ omega (arith, length-drop (at + length src) ws) in
-    rw (n, m, w, take-at (take at ws ++ src) (drop (at + length src) ws) (at + length src) l) (append-assoc (take at ws) src (replicate (length ws - (at + length src)) 0))
+zeros-from ws old k e h l =
+    let f : length (take old ws) ≡ old = length-take-le old ws (omega arith) in
+    let n : k ≡ length (take old ws) + (k - old) = omega arith in
+    let z : length ws - old - (k - old) ≡ length ws - k = omega arith in
+    ap (drop k) (sym e) ∙ ap (λ (m : ℕ). drop m (take old ws ++ replicate (length ws - old) 0)) n
+    ∙ drop-append-add (take old ws) (replicate (length ws - old) 0) (k - old) ∙ drop-zeros (k - old) (length ws - old) ∙ ap (λ (m : ℕ). replicate m 0) z
+
+pub cleared-twice : (ws : List ℕ) (n : ℕ) → n ≤ length ws → cleared (cleared ws n) n ≡ cleared ws n
+unfolding cleared
+cleared-twice ws n h =
+    let l : length (take n ws ++ replicate (length ws - n) 0) ≡ length ws = length-cleared ws n in
+    rw (l, take-at (take n ws) (replicate (length ws - n) 0) n (length-take-le n ws h))
+
+-- ---- a run laid into a slice that has zeros behind its first `old` words, which are then cleared behind the run
+module _ (ws : List ℕ) (at : ℕ) (src : List ℕ) (old : ℕ) (room : at + length src ≤ length ws) (inside : old ≤ length ws) (zeros : cleared ws old ≡ ws) where
+  abbrev n : ℕ
+  n = at + length src
+
+  abbrev new : List ℕ
+  new = take at ws ++ src
+
+  new-length : length new ≡ n
+  new-length = length-append (take at ws) src ∙ omega (arith, length-take at ws)
+
+  mid-length : length (new ++ drop n ws) ≡ length ws
+  mid-length = length-append new (drop n ws) ∙ omega (arith, length-drop n ws, new-length)
+
+  -- it ends before the old one did
+  shorter : n ≤ old → cleared (take old (new ++ drop n ws)) n ++ drop old (new ++ drop n ws) ≡ new ++ replicate (length ws - n) 0
+  unfolding cleared
+  shorter h =
+      let t : take n (take old (new ++ drop n ws)) ≡ new = take-take n old (new ++ drop n ws) h ∙ take-at new (drop n ws) n new-length in
+      let l : length (take old (new ++ drop n ws)) ≡ old = length-take-le old (new ++ drop n ws) (omega (arith, mid-length)) in
+      let k : old ≡ length new + (old - n) = omega (arith, new-length) in
+      let j : n + (old - n) ≡ old = omega arith in
+      let d : drop old (new ++ drop n ws) ≡ replicate (length ws - old) 0 =
+      ap (λ (m : ℕ). drop m (new ++ drop n ws)) k ∙ drop-append-add new (drop n ws) (old - n) ∙ drop-drop (old - n) n ws
+      ∙ ap (λ (m : ℕ). drop m ws) j ∙ zeros-from ws old old zeros (omega arith) inside in
+      let z : old - n + (length ws - old) ≡ length ws - n = omega arith in
+      rw (t, l, d) (append-assoc new (replicate (old - n) 0) (replicate (length ws - old) 0) ∙ ap (λ (r : List ℕ). new ++ r) (replicate-append-replicate (old - n) (length ws - old) 0 ∙ ap (λ (m : ℕ). replicate m 0) z))
+
+  -- or behind it
+  longer : old ≤ n → cleared (take old (new ++ drop n ws)) n ++ drop old (new ++ drop n ws) ≡ new ++ replicate (length ws - n) 0
+  longer h =
+      rw (cleared-end (take old (new ++ drop n ws)) n (omega (arith, length-take old (new ++ drop n ws))), take-append-drop old (new ++ drop n ws))
+      (ap (λ (r : List ℕ). new ++ r) (zeros-from ws old n zeros h room))
+
+  pub put-words : (mid : List ℕ) (e : ℕ) (ys : List ℕ) → e ≡ min (at + length src) (length ws + 1) → mid ≡ laid ws at src → ys ≡ cleared (take old mid) e
+      → ys ++ drop old mid ≡ take at ws ++ (src ++ replicate (length ws - (at + length src)) 0)
+  put-words mid e ys f g y =
+      let i : e ≡ n = omega arith in
+      let w : mid ≡ new ++ drop n ws = g ∙ laid-in ws at src room ∙ sym (append-assoc (take at ws) src (drop n ws)) in
+      rw (y, i, w) (elim (decLe n old) [ yes d ↦ shorter d | no d ↦ longer (omega arith) ] ∙ append-assoc (take at ws) src (replicate (length ws - n) 0))

@@ -5,15 +5,18 @@ use Prim.Native.Nat.{ℕ, _+_, _-_, _≤_, _<_}
 use native.Mathlib.Omega.{arith}
 use lib.ListN.{length, take, drop, getD, length-append, length-drop, length-take, length-map, take-append-drop}
 use lib.Seq.{drop-append-le, drop-append-add, drop-at, take-at}
-use Rattle.term.specs.Trees.{Tree, Forest, _▹_, words, Formed, depth, found, subtree}
-use Rattle.term.specs.Parts.{parse}
-use Rattle.term.proofs.Parsing.{some-words, parse-words, prefix-free}
+use Rattle.term.specs.Trees.{Tree, words, Formed, found, subtree}
+use Rattle.term.specs.Terms.{maxDepth}
+use Rattle.term.proofs.Parsing.{some-words, prefix-free}
 use Rattle.term.proofs.Places.{place, subtree-formed, subtree-depth}
+use Rattle.types.proofs.Replace.{part-typed}
+use Rattle.declarations.proofs.Entries.{well-formed}
 use Rattle.rules.specs.Rewrite.{holes}
 use Rattle.rules.proofs.Matching.{AllFormed}
 use Rattle.step.specs.declared.matching.Match.{Match}
 use Rattle.step.specs.Code.Matching.{startOf, endOf, Holds}
 use Rattle.step.specs.Code.Building.{Caught}
+use Rattle.step.specs.Code.Shapes.{Begins, Sorted}
 use Rattle.step.specs.Code.Site.{Site}
 use Rattle.step.proofs.Left.{getD-words}
 
@@ -75,13 +78,14 @@ module _ {ds term : List ℕ} {at end : ℕ} (s : Site ds term at end) (m : Matc
         from-there s (startOf m k) (omega (arith, inside)) ∙ ap (λ (l : List ℕ). l ++ s .after) here-run
         ∙ append-assoc (words (holes d k)) (drop (endOf m k - startOf m k) (drop (startOf m k) (words (s .tree)))) (s .after)
 
-    row-there : (g : Forest) × (parse (drop (at + startOf m k) term) ≡ holes d k ▹ g)
-    row-there =
-        let rest = drop (endOf m k - startOf m k) (drop (startOf m k) (words (s .tree))) ++ s .after in
-        (parse rest, rw there-run (parse-words (holes d k) (f k) rest))
+    hole-there : subtree (s .tree) (startOf m k) ≡ found (holes d k)
+    hole-there = subtree-there (s .tree) (holes d k) (startOf m k) _ (s .formed) (f k) here-run
 
-    hole-depth : depth (holes d k) ≤ depth (s .tree)
-    hole-depth = subtree-depth (s .tree) (startOf m k) (holes d k) (subtree-there (s .tree) (holes d k) (startOf m k) _ (s .formed) (f k) here-run)
+    hole-begins : Begins (drop (at + startOf m k) term) maxDepth (holes d k)
+    hole-begins = record { formed = f k; shallow = omega (arith, s .shallow, subtree-depth (s .tree) (startOf m k) (holes d k) hole-there); rest = _; whole = there-run }
+
+    hole-sorted : Sorted ds (holes d k)
+    hole-sorted = part-typed (well-formed ds (s .good)) (s .tree) (startOf m k) (holes d k) (s .sort) (s .typed) hole-there
 
   pub caught : Caught ds term at m d
   caught =
@@ -91,6 +95,6 @@ module _ {ds term : List ℕ} {at end : ℕ} (s : Site ds term at end) (m : Matc
         few = omega (arith, h .few, count-held);
         spans = λ k l. (h .spans k l .0, omega (arith, h .spans k l .1, site-bounds s, s .ends));
         are = λ k l. rw (there-run k l) (take-at (words (holes d k)) _ (endOf m k - startOf m k) (run-length k l));
-        there = λ k l. row-there k l;
-        shallow = λ k l. omega (arith, s .shallow, hole-depth k l);
+        begins = λ k l. hole-begins k l;
+        sorted = λ k l. hole-sorted k l;
       }

@@ -97,11 +97,14 @@ module _ {ds term : List ℕ} (x : Termed ds term) (k : ℕ) (inside : k < lengt
   pub site : (e : ℕ) → e ≡ k + length (part term k) → Site ds term k e
   site e h =
       let p = place (x .tree) k within-words in
+      let d = part-typed (well-formed ds (x .good)) (x .tree) k (p .here) (x .sort) (x .typed .rules) (p .is) in
       record {
         good = x .good;
         tree = p .here;
         formed = subtree-formed (x .tree) k (p .here) (x .typed .form .formed) (p .is);
         shallow = omega (arith, subtree-depth (x .tree) k (p .here) (p .is), x .typed .form .shallow);
+        sort = d .0;
+        typed = d .1;
         before = p .before;
         after = p .after;
         whole = sym (x .is) ∙ p .whole;

@@ -1,11 +1,10 @@
 -- A step on the slice of a typed term: what the words from the place on make of it.
 use mathlib.Core.Path.{_≡_, refl, sym, _∙_, ap}
 use mathlib.Core.Logic.{_≢_}
-use mathlib.Core.Bool.{Bool, true, false, cond}
+use mathlib.Core.Bool.{cond}
 use mathlib.Core.List.{List, _++_, append-assoc}
 use Prim.Native.Nat.{ℕ, _+_, _-_, _≤_, _<_}
 use native.Mathlib.Omega.{arith}
-use borrow.Author.Tests.{ne-eqb, eqb-false}
 use lib.Dec.{eqb}
 use lib.ListN.{length, take, replicate, length-append}
 use lib.Seq.{length-take-le, take-take, take-at}
@@ -22,16 +21,17 @@ use Rattle.typing.proofs.Theorems.{sound-entry}
 use Rattle.rules.specs.Steps as R
 use Rattle.rules.specs.Statements.{Outcome, good, no-rule, no-place, no-instance, too-big}
 use Rattle.rules.proofs.Steps.{step-decided}
-use Rattle.step.specs.declared.single.Step.{Step}
+use Rattle.lent.specs.declared.steps.Step.{Step}
 use Rattle.step.specs.declared.single.Answer.{Answer}
 use Rattle.step.specs.declared.writing.Rewritten.{Rewritten}
-use Rattle.step.specs.Answers.{asked, held, stepIn, refusal, stepped, answerTo, wordsLeft}
+use Rattle.lent.specs.Lent.{asked}
+use Rattle.step.specs.Answers.{held, stepIn, refusal, stepped, answerTo, wordsLeft}
 use Rattle.step.specs.Code.Making.{Termed, Made}
 use Rattle.step.proofs.Theorems.{refusals}
 use Rattle.step.proofs.Held.{accepted-code, its-step, its-type}
 
 -- ---- what an outcome tells of the term and the place
-stays-by : {Γ : Context} {t u : Tree} {s : R.Step} {c : ℕ} → Outcome Γ t s c u → c ≢ 0 → u ≡ t
+pub stays-by : {Γ : Context} {t u : Tree} {s : R.Step} {c : ℕ} → Outcome Γ t s c u → c ≢ 0 → u ≡ t
 stays-by (good u k) h = absurd (h refl)
 stays-by (no-rule e) h = refl
 stays-by (no-place e f) h = refl
@@ -46,10 +46,10 @@ inside-by (no-instance e f x) h = absurd (omega arith)
 inside-by (too-big e f x g) h = absurd (omega arith)
 
 -- ---- what is said of a step that was refused, and of one that was done
-abbrev Tells : List ℕ → List ℕ → ℕ → Step → ℕ → ℕ → List ℕ → ℕ → Type 0
+abbrev pub Tells : List ℕ → List ℕ → ℕ → Step → ℕ → ℕ → List ℕ → ℕ → Type 0
 Tells ds ws n s code length′ ws′ size =
     let after = stepIn ds ws n s in
-    (code ≡ after .code) × (length′ ≡ length (words (after .tree))) × (ws′ ≡ cond (eqb code 0) (held (after .tree)) ws) × (size ≡ maxWords)
+    (code ≡ after .code) × (length′ ≡ length (words (after .tree))) × (ws′ ≡ held (after .tree)) × (size ≡ maxWords)
 
 module _ (ds ws : List ℕ) (n : ℕ) (accepted : typingOf ds ws n .code ≡ 0) where
   abbrev tree : Tree
@@ -119,8 +119,8 @@ module _ (ds ws : List ℕ) (n : ℕ) (accepted : typingOf ds ws n .code ≡ 0) 
           rw (← new-length, all-words, slice-size, length-take-le (r .end) out room-out)
           (sym (append-assoc (take (s .place) ws) (take (r .end) out) (replicate (maxWords - (s .place + r .end)) 0)))
 
-    pub refuses : (out : List ℕ) (r : Rewritten) → Made tree after (s .place) out r → r .code ≢ 0 → Tells ds ws n s (r .code) n ws (length out)
-    refuses out r m h = (m .code, refused-length (λ e. h (m .code ∙ e)), rw (ne-eqb _ _ h), m .size)
+    pub refuses : (out : List ℕ) (r : Rewritten) → Made tree after (s .place) out r → r .code ≢ 0 → cleared ws n ≡ ws → Tells ds ws n s (r .code) n ws (length out)
+    refuses out r m h z = (m .code, refused-length (λ e. h (m .code ∙ e)), sym z ∙ refused-slice (λ e. h (m .code ∙ e)), m .size)
 
     pub does : (out : List ℕ) (r : Rewritten) (ws′ : List ℕ) → Made tree after (s .place) out r → r .code ≡ 0
         → ws′ ≡ take (s .place) ws ++ (take (r .end) out ++ replicate (length ws - (s .place + length (take (r .end) out))) 0) → Tells ds ws n s 0 (s .place + r .end) ws′ (length out)
@@ -168,13 +168,12 @@ module _ (ds ws : List ℕ) (n : ℕ) (accepted : typingOf ds ws n .code ≡ 0) 
     length-is : length′ ≡ length (words (stepIn ds ws n s .tree))
     length-is = rw same-step at (told .1)
 
-    slice-by : (b : Bool) → eqb code 0 ≡ b → ws′ ≡ held (stepIn ds ws n s .tree)
-    slice-by true e = rw (e, same-step) at (told .2)
-    slice-by false e = (rw e at (told .2)) ∙ is ∙ refused-slice ds ws n accepted s (λ z. eqb-false _ _ e (code-is ∙ z))
+    slice-is : ws′ ≡ held (stepIn ds ws n s .tree)
+    slice-is = rw same-step at (told .2)
 
     pub entry-done : (record { code = code; side = 0; step = 1; at = at; length = length′ } ≡ answerTo ds ws n s) × (ws′ ≡ wordsLeft ds ws n s)
     unfolding answerTo wordsLeft stepped
-    entry-done = (rw (accepted, at-is, code-is, length-is), rw accepted (slice-by _ refl))
+    entry-done = (rw (accepted, at-is, code-is, length-is), rw accepted slice-is)
 
 -- ---- and where typing refused
 module _ (ds ws : List ℕ) (n : ℕ) (s : Step) (T : Typing) (r : Answer) (is : T ≡ typingOf ds ws n) (answer : r ≡ refusal (T .code) (T .at)) where

@@ -10,8 +10,9 @@ use Rattle.declarations.proofs.Entries.{well-formed}
 use Rattle.typing.specs.Answers.{TypedTerm}
 use Rattle.rules.specs.Steps.{stepOf, stepsOf}
 use Rattle.rules.proofs.Steps.{step-decided, step-keeps-type, steps-keep-type, steps-keep-meaning, gaussian-steps}
-use Rattle.step.specs.declared.single.Step.{Step}
-use Rattle.step.specs.Answers.{asked, stepped, answerTo, wordsLeft}
+use Rattle.lent.specs.declared.steps.Step.{Step}
+use Rattle.lent.specs.Lent.{asked}
+use Rattle.step.specs.Answers.{stepped, answerTo, wordsLeft}
 use Rattle.step.specs.Statements.{Entry, Refusals, Work, holding, after, afterAll, Course, ended, called, leaving, Lists}
 use Rattle.step.proofs.Held.{accepted-code, its-step, its-type, held-typed}
 

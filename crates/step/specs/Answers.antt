@@ -10,12 +10,9 @@ use Rattle.term.specs.Terms.{maxWords}
 use Rattle.declarations.specs.Declarations.{contextIn}
 use Rattle.typing.specs.Answers.{typingOf}
 use Rattle.rules.specs.Steps as R
-use Rattle.step.specs.declared.single.Step as S
+use Rattle.lent.specs.declared.steps.Step as S
+use Rattle.lent.specs.Lent.{asked}
 use Rattle.step.specs.declared.single.Answer as A
-
--- the rule, the place and the two indices that were handed over
-abbrev pub asked : S.Step → R.Step
-asked s = record { rule = s .rule; place = s .place; i = s .i; j = s .j }
 
 -- a work slice that holds a term, "zeros behind the term"
 unfoldable pub held : Tree → List ℕ

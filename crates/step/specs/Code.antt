@@ -3,6 +3,8 @@ pub mod Children
 pub mod Writing
 pub mod Families
 pub mod Matching
+pub mod Shapes
 pub mod Building
 pub mod Site
 pub mod Making
+pub mod Running

@@ -17,8 +17,9 @@ use Rattle.declarations.specs.Declarations.{contextIn}
 use Rattle.typing.specs.Answers.{typingOf, TypedTerm}
 use Rattle.rules.specs.Steps.{Stepped, stepOf}
 use Rattle.rules.specs.Statements.{Outcome, Typed}
-use Rattle.step.specs.declared.single.Step.{Step}
-use Rattle.step.specs.Answers.{asked, held, refusal, stepped, answerTo, wordsLeft}
+use Rattle.lent.specs.declared.steps.Step.{Step}
+use Rattle.lent.specs.Lent.{asked}
+use Rattle.step.specs.Answers.{held, refusal, stepped, answerTo, wordsLeft}
 
 -- ---- one call
 -- 01: "Side is 0, .. step is 1 from 20 on and for a good step", at is "its place" from 20 on and else 0, the length is that of the term left; the slice holds

@@ -1,65 +1,26 @@
 // Building a right side: one walk over its words. A hole's part is copied, and an index comes from the type of what a hole holds.
 use crate::matching::Match;
+use crate::shapes::append_side;
+use crate::shapes::kind_of;
 use crate::writing::append_run;
 use crate::writing::append_word;
 use rulebook::word_at;
-use typing::terms::TermType;
-use typing::terms::sizes_of;
-use typing::terms::type_at;
 ghost use mathlib.Core.Path.{_≡_};
 ghost use mathlib.Core.Bool.{true};
 ghost use mathlib.Core.List.{List};
-ghost use Prim.Native.Nat.{_+_, _≤_, _<_};
+ghost use Prim.Native.Nat.{_+_, _≤_};
 ghost use lib.ListN.{length, take, drop};
 ghost use Rattle.words.specs.Words.{Added};
 ghost use Rattle.term.specs.Trees.{Tree, words};
-ghost use Rattle.term.specs.Parts.{parse, part, treeIn};
-ghost use Rattle.term.specs.Terms.{partDepth};
-ghost use Rattle.declarations.specs.Declarations.{contextIn, goodDeclarations};
+ghost use Rattle.term.specs.Parts.{parse, treeIn};
+ghost use Rattle.declarations.specs.Declarations.{contextIn};
 ghost use Rattle.rules.specs.Patterns.{sortOf};
 ghost use Rattle.rulebook.specs.Rows.{allWords};
-ghost use Rattle.step.specs.Code.Building.{indexIn, chosenIndex, piece, pieces, asks, allAsk, Caught};
+ghost use Rattle.step.specs.Code.Building.{chosenIndex, piece, pieces, asks, allAsk, Caught};
+ghost use Rattle.step.specs.Code.Shapes.{HasKind};
 
-// An index of a type: its words, and how many they are; none where the type has no such index.
-struct Index {
-    n: usize,
-    words: [u16; 63],
-}
-
-// The first or the second index of a type. A bra's is that of its columns.
-fn index_in(of: TermType, second: bool) -> Index
-    ensures { λ r. ⌜ r ≡ indexIn of second ⌝ }
-{
-    let kind = of.kind;
-    let rows = of.rows;
-    let columns = of.columns;
-    let sizes = sizes_of(kind);
-    if second {
-        if sizes.number == 3 {
-            return Index {
-                n: sizes.columns,
-                words: columns,
-            };
-        }
-        return Index {
-            n: 0,
-            words: columns,
-        };
-    }
-    if sizes.number == 2 {
-        return Index {
-            n: sizes.columns,
-            words: columns,
-        };
-    }
-    Index {
-        n: sizes.rows,
-        words: rows,
-    }
-}
-
-// The index of the type of the part that begins at `from` in a term, written behind what stands there. Where the type has none it is
-// 5:0, the `no-index` of `rules`.
+// The index of the type of the part that begins at `from` in a term, written behind what stands there: an operator's second is that of its columns, and a bra's
+// only one too. Where the type has none it is 5:0, the `no-index` of `rules`.
 fn append_index(
     ds: &[u16],
     term: &[u16],
@@ -68,18 +29,21 @@ fn append_index(
     out: &mut [u16],
     at: usize,
 ) -> usize
-    requires { ⌜ (goodDeclarations (now ds) ≡ true) × (0 < length (part (now term) from)) × (partDepth (now term) from ≤ 64) ⌝ }
+    requires { ⌜ HasKind (now ds) (drop from (now term)) 64 ⌝ }
     ensures { λ r. ⌜ Added (now (out .entry)) at (words (chosenIndex second (sortOf (contextIn (now (ds .entry))) (treeIn (parse (drop from (now (term .entry)))))))) (now (out .exit)) r ⌝ }
 {
-    let typing = type_at(ds, term, from);
-    let of = typing.of;
-    let index = index_in(of, second);
-    let n = index.n;
-    let words = index.words;
-    if n == 0 {
+    let part = &term[from..];
+    let kind = kind_of(ds, part, 64);
+    if second {
+        if kind == 3 {
+            return append_side(ds, part, true, 64, out, at);
+        }
         return append_word(out, at, 1280);
     }
-    append_run(out, at, &words, 0, n)
+    if kind == 0 {
+        return append_word(out, at, 1280);
+    }
+    append_side(ds, part, kind == 2, 64, out, at)
 }
 
 // One word of the right side, for a match of the part that begins at `place`.

@@ -2,11 +2,10 @@
 use crate::building::build_side;
 use crate::matching::Match;
 use crate::matching::match_side;
+use crate::shapes::kind_of;
 use crate::writing::Rewritten;
 use crate::writing::refused;
 use rulebook::Row;
-use typing::terms::sizes_of;
-use typing::terms::type_at;
 ghost use mathlib.Core.Path.{_≡_};
 ghost use mathlib.Core.Logic.{_≢_};
 ghost use mathlib.Core.List.{List};
@@ -29,12 +28,8 @@ fn is_wanted(ds: &[u16], term: &[u16], place: usize, found: Match, kind: u16) ->
     if kind == 0 {
         return true;
     }
-    let start = found.starts[0];
-    let typing = type_at(ds, term, place + start);
-    let of = typing.of;
-    let its = of.kind;
-    let sizes = sizes_of(its);
-    sizes.number == kind
+    let from = place + found.starts[0];
+    kind_of(ds, &term[from..], 64) == kind
 }
 
 // What the equation of a row makes of the part of a term from `place` up to `end`.

@@ -1,17 +1,10 @@
 // The single step, for a caller who lends declarations, a work slice and a length. Nothing is relied on.
 use crate::stepping::step_on;
+use lent::steps::Step;
 use typing::terms::type_term;
 use words::clear_from;
 ghost use mathlib.Core.Path.{_≡_};
 ghost use Rattle.step.specs.Answers.{refusal, answerTo, wordsLeft};
-
-// A step: the number of a rule, an offset in the term, and two indices among the children, each as a file can give it.
-pub struct Step {
-    pub rule: u16,
-    pub place: u16,
-    pub i: u16,
-    pub j: u16,
-}
 
 // The answer: a code with its side, step and place, and the length of the term that is left.
 pub struct Answer {

@@ -1,8 +1,8 @@
 // A step on a typed term: the result is made apart, so that a refusal moves nothing.
 use crate::rewriting::rewrite_part;
-use crate::single::Step;
 use crate::writing::Rewritten;
 use crate::writing::refused;
+use lent::steps::Step;
 use rulebook::row_of;
 use term::parts::part_end;
 use term::terms::depth_at;
@@ -10,22 +10,44 @@ use term::terms::level_at;
 use words::append;
 use words::clear_from;
 ghost use mathlib.Core.Path.{_≡_};
-ghost use mathlib.Core.Bool.{cond};
 ghost use mathlib.Core.List.{_++_};
-ghost use Prim.Native.Nat.{_+_, _-_, _≤_};
-ghost use lib.Dec.{eqb};
+ghost use Prim.Native.Nat.{_+_, _-_, _≤_, min};
+ghost use lib.Dec.{ltb};
 ghost use lib.ListN.{length, take, replicate};
+ghost use Rattle.words.specs.Words.{cleared};
 ghost use Rattle.term.specs.Trees.{words, replace};
+ghost use Rattle.term.specs.Terms.{partDepth, levelAt};
 ghost use Rattle.declarations.specs.Declarations.{contextIn};
 ghost use Rattle.typing.specs.Answers.{typingOf};
 ghost use Rattle.rules.specs.Steps.{limited, stepOf};
-ghost use Rattle.step.specs.Answers.{asked, held, stepIn};
-ghost use Rattle.step.specs.Code.Making.{Termed, Fresh, Made};
+ghost use Rattle.lent.specs.Lent.{asked};
+ghost use Rattle.step.specs.Answers.{held, stepIn};
+ghost use Rattle.step.specs.Code.Making.{Termed, Seated, Fresh, Made};
 
 // What a step comes to: its code, and the length of the term that is left.
 pub struct Taken {
     pub code: usize,
     pub length: usize,
+}
+
+// Whether a part would pass 64 at a place. The depth of a part takes a walk over it, and the level of a place one back over all that stands
+// before it, so they are asked for only where they decide: a part is no deeper than it has words, a place no more levels down than words
+// stand before it, and what is there now is not too deep.
+fn is_too_deep(term: &[u16], place: usize, part: &[u16]) -> bool
+    requires { ⌜ Seated (now term) place × (place ≤ 4096) × (length (now part) ≤ 4096) ⌝ }
+    ensures { λ r. ⌜ r ≡ ltb 64 (levelAt (now (term .entry)) place + min 65 (partDepth (now (part .entry)) 0)) ⌝ }
+{
+    if place + part.len() <= 64 {
+        return false;
+    }
+    let deep = depth_at(part, 0);
+    if place + deep <= 64 {
+        return false;
+    }
+    if deep <= depth_at(term, place) {
+        return false;
+    }
+    64 < level_at(term, place) + deep
 }
 
 // The limits of the whole result, and the words behind the part. A part's new words stand in the first `new` of `out`.
@@ -36,8 +58,7 @@ fn finish(term: &[u16], place: usize, end: usize, new: usize, out: &mut [u16]) -
     if 4096 < new {
         return refused(23);
     }
-    let deep = depth_at(&out[..new], 0);
-    if 64 < level_at(term, place) + deep {
+    if is_too_deep(term, place, &out[..new]) {
         return refused(23);
     }
     let done = append(out, new, &term[end..]);
@@ -68,19 +89,19 @@ fn make(ds: &[u16], term: &[u16], s: Step, out: &mut [u16]) -> Rewritten
     finish(term, place, end, made.end, out)
 }
 
-// Puts the words of a result from the place on into their slice, and zeros behind.
-fn put(ws: &mut [u16], place: usize, src: &[u16])
-    requires { ⌜ place + length (now src) ≤ length (now ws) ⌝ }
+// Puts the words of a result from the place on into their slice, which had zeros behind its first `old` words, and zeros behind them.
+fn put(ws: &mut [u16], place: usize, src: &[u16], old: usize)
+    requires { ⌜ (place + length (now src) ≤ length (now ws)) × (old ≤ length (now ws)) × (cleared (now ws) old ≡ now ws) ⌝ }
     ensures { λ _. ⌜ now (ws .exit) ≡ take place (now (ws .entry)) ++ (now (src .entry) ++ replicate (length (now (ws .entry)) - (place + length (now (src .entry)))) 0) ⌝ }
 {
     let end = append(ws, place, src);
-    clear_from(ws, end);
+    clear_from(&mut ws[..old], end);
 }
 
 // One step of the typed term in the first `n` words, which have zeros behind.
 pub fn step_on(ds: &[u16], ws: &mut [u16], n: usize, s: Step, out: &mut [u16]) -> Taken
-    requires { ⌜ (typingOf (now ds) (now ws) n .code ≡ 0) × (length (now out) ≡ 4096) ⌝ }
-    ensures { λ r. ⌜ (r .code ≡ stepIn (now (ds .entry)) (now (ws .entry)) n s .code) × (r .length ≡ length (words (stepIn (now (ds .entry)) (now (ws .entry)) n s .tree))) × (now (ws .exit) ≡ cond (eqb (r .code) 0) (held (stepIn (now (ds .entry)) (now (ws .entry)) n s .tree)) (now (ws .entry))) × (length (now (out .exit)) ≡ 4096) ⌝ }
+    requires { ⌜ (typingOf (now ds) (now ws) n .code ≡ 0) × (cleared (now ws) n ≡ now ws) × (length (now out) ≡ 4096) ⌝ }
+    ensures { λ r. ⌜ (r .code ≡ stepIn (now (ds .entry)) (now (ws .entry)) n s .code) × (r .length ≡ length (words (stepIn (now (ds .entry)) (now (ws .entry)) n s .tree))) × (now (ws .exit) ≡ held (stepIn (now (ds .entry)) (now (ws .entry)) n s .tree)) × (length (now (out .exit)) ≡ 4096) ⌝ }
 {
     let result = make(ds, &ws[..n], s, out);
     if result.code != 0 {
@@ -91,7 +112,7 @@ pub fn step_on(ds: &[u16], ws: &mut [u16], n: usize, s: Step, out: &mut [u16]) -
     }
     let place = s.place as usize;
     let end = result.end;
-    put(ws, place, &out[..end]);
+    put(ws, place, &out[..end], n);
     Taken {
         code: 0,
         length: place + end,

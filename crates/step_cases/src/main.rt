@@ -4,17 +4,16 @@
 // slice then has up to the last that is not zero, and these.
 use case_declarations::next_declarations;
 use cases::input::fill;
-use cases::input::front;
 use cases::input::front_mut;
 use cases::input::narrow;
 use cases::input::next_number;
 use cases::input::next_words;
 use cases::output::also;
-use cases::output::also_words;
+use cases::output::also_slice;
 use cases::output::end_line;
 use cases::output::first;
+use lent::steps::Step;
 use step::single::Answer;
-use step::single::Step;
 use step::single::take_step;
 
 fn next_step() -> Step {
@@ -25,28 +24,13 @@ fn next_step() -> Step {
     Step { rule, place, i, j }
 }
 
-// How many words there are up to the last that is not zero.
-fn used(ws: &[u16]) -> usize {
-    let mut n = ws.len();
-    while n > 0 {
-        if ws[n - 1] != 0 {
-            return n;
-        }
-        n -= 1;
-    }
-    0
-}
-
-// All words of the slice are told: those behind the last that is written are zeros.
 fn write(answer: Answer, ws: &[u16]) {
     first(answer.code);
     also(answer.side);
     also(answer.step);
     also(answer.at);
     also(answer.length);
-    let n = used(ws);
-    also(n);
-    also_words(front(ws, n));
+    also_slice(ws);
     end_line();
 }
 

@@ -3,12 +3,10 @@ use mathlib.Core.Path.{_≡_, refl, sym, _∙_, ap}
 use mathlib.Core.Bool.{Bool, true, false, and-eq-true-iff}
 use mathlib.Core.Logic.{_≢_}
 use mathlib.Core.List.{List}
-use Prim.Native.Nat.{ℕ, _-_, _≤_, _<_}
-use native.Mathlib.Omega.{arith}
-use borrow.Author.Tests.{lt-ltb, le-leb, lt-leb, eq-eqb, ne-eqb, leb-true}
+use Prim.Native.Nat.{ℕ, _≤_, _<_}
+use borrow.Author.Tests.{eq-eqb, ne-eqb, leb-true}
 use lib.Dec.{leb}
-use lib.ListN.{length, take, drop, length-drop}
-use lib.Seq.{take-all}
+use lib.ListN.{length, take}
 use Rattle.term.specs.declared.terms.Names.{Names}
 use Rattle.term.specs.Parts.{parse, first, part, treeIn}
 use Rattle.term.specs.Terms.{maxWords, maxDepth, firstDepth, partDepth, IsTerm, isTerm}
@@ -18,7 +16,7 @@ use Rattle.term.proofs.TermTest.{term-tree}
 use Rattle.typing.specs.declared.infer.Verdict as Answer
 use Rattle.typing.specs.declared.sorts.Sorted as S
 use Rattle.typing.specs.declared.terms.Kind.the-variants as Kinds
-use Rattle.typing.specs.Answers.{typeRecord, refuse, typing, answerOf, typingOf, partTypingOf}
+use Rattle.typing.specs.Answers.{typeRecord, refuse, typing, answerOf, typingOf}
 use Rattle.typing.specs.Code.Accepting.{accept, answerTo}
 use Rattle.declarations.specs.Declarations.{contextIn, namesIn, goodDeclarations}
 use Rattle.typing.specs.Code.Records.{numberOf, indexOf, noIndex, sortedOf}
@@ -84,30 +82,6 @@ module _ (ds ws : List ℕ) (n : ℕ) where
           → typingOf ds ws n ≡ answerOf n (partDepth (take n ws) 0) (typeOf (contextIn ds) 0 (treeIn (parse (take n ws))))
       unfolding typingOf
       the-term h = rw (eq-eqb _ _ size, good, h)
-
--- ---- of a part
--- the words from an offset on, as the code takes them
-pub rest-all : (ws : List ℕ) (at : ℕ) → take (length ws - at) (drop at ws) ≡ drop at ws
-rest-all ws at = take-all (length ws - at) (drop at ws) (omega (arith, length-drop at ws))
-
-module _ (ds ws : List ℕ) (at : ℕ) where
-  pub part-declarations : goodDeclarations ds ≡ false → partTypingOf ds ws at ≡ refuse 7 0
-  unfolding partTypingOf
-  part-declarations h = rw h
-
-  module _ (good : goodDeclarations ds ≡ true) where
-    pub part-missing : length (part ws at) ≡ 0 → partTypingOf ds ws at ≡ refuse 8 0
-    unfolding partTypingOf
-    part-missing h = rw (good, h)
-
-    module _ (some : 0 < length (part ws at)) where
-      pub part-deep : maxDepth < partDepth ws at → partTypingOf ds ws at ≡ refuse 8 0
-      unfolding partTypingOf
-      part-deep h = rw (good, lt-ltb 0 (length (part ws at)) some, lt-leb (partDepth ws at) maxDepth h)
-
-      pub the-part : partDepth ws at ≤ maxDepth → partTypingOf ds ws at ≡ answerOf (length (part ws at)) (partDepth ws at) (typeOf (contextIn ds) 0 (treeIn (parse (drop at ws))))
-      unfolding partTypingOf
-      the-part h = rw (good, lt-ltb 0 (length (part ws at)) some, le-leb (partDepth ws at) maxDepth h)
 
 -- ---- the answer by the number of the class
 module _ (n d : ℕ) (s : S.Sorted) where

@@ -13,12 +13,13 @@ use Rattle.term.specs.Heads.{Label, type-name, basis-name, variable, Head, unkn
 use Rattle.term.specs.Trees.{words, count}
 use Rattle.term.proofs.Readings.{Every, every-at, _⨾_}
 use Rattle.typing.specs.Code.Conclude.{failure, outcomeOf}
-use Rattle.declarations.specs.Declarations.{contextIn, upTo, basisIn, variableIn}
+use Rattle.declarations.specs.Declarations.{contextIn, basisIn, variableIn}
 use Rattle.typing.specs.Code.Records.{sortedOf}
 use Rattle.types.specs.Sorts.{Sort, basis}
 use Rattle.types.specs.TypeOf.{fails, gives, listed, conclude}
 use Rattle.typing.specs.Code.Verdicts.{leafOf}
-use Rattle.declarations.proofs.Entries.{upTo-at, upTo-past}
+use Rattle.words.specs.Listed.{upTo}
+use Rattle.words.proofs.Listed.{upTo-at, upTo-past}
 
 -- a declared name's entry
 on-listed : {A : Type 0} (n : ℕ) (f : ℕ → A) (F : A → Sort) (a : ℕ)

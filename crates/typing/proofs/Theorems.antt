@@ -13,17 +13,19 @@ use Rattle.term.specs.Trees.{Tree, none, _▹_, words, depth}
 use Rattle.term.proofs.Parsing.{parse-tree}
 use Rattle.term.proofs.TermTest.{term-in, tree-term}
 use Rattle.typing.specs.declared.terms.Typing as A
-use Rattle.typing.specs.Answers.{refuse, answerOf, typingOf, TypedTerm}
+use Rattle.typing.specs.Answers.{refuse, answerOf, typingOf, HeldTerm, TypedTerm}
 use Rattle.declarations.specs.Declarations.{contextIn, namesIn, goodDeclarations}
 use Rattle.types.specs.First.{HasSort, FirstUntyped}
-use Rattle.types.specs.Rules.{IsType}
+use Rattle.types.specs.Rules.{_⊢_∶_, IsType}
 use Rattle.types.specs.Sorts.{Sort, index, basis, scalar, ket, bra, operator}
 use Rattle.types.specs.TypeOf.{Typed, typed, untyped, typeOf}
-use Rattle.typing.specs.Statements.{Sound, Complete, Places, Parts}
-use Rattle.typing.proofs.Answering.{here, wrong-size, bad-declarations, no-term, the-term, the-part}
+use Rattle.typing.specs.Statements.{Sound, Complete, Places, Verdict, wrong-size, bad-declarations, no-term, no-sort, no-type, a-type, Decided}
+use Rattle.typing.proofs.Answering as W
+use Rattle.typing.proofs.Answering.{here, the-term}
 use Rattle.types.proofs.Complete.{complete}
 use Rattle.declarations.proofs.Entries.{well-formed}
-use Rattle.types.proofs.Place.{first-untyped, no-sort}
+use Rattle.types.proofs.Place as P
+use Rattle.types.proofs.Place.{first-untyped}
 use Rattle.types.proofs.Sound.{sound}
 
 -- the answer on the words of a term that passes tests 1, 7 and 8
@@ -46,6 +48,9 @@ accepted-sort n d (typed (ket σ)) e = (ket σ, refl, tt)
 accepted-sort n d (typed (bra σ)) e = (bra σ, refl, tt)
 accepted-sort n d (typed (operator σ τ)) e = (operator σ τ, refl, tt)
 
+typed-by : {ds ws : List ℕ} {n : ℕ} {t : Tree} {S : Sort} → HeldTerm ds ws n t → IsType S → contextIn ds ⊢ t ∶ S → TypedTerm ds ws n t S
+typed-by h type d = record { size = h .size; good = h .good; inside = h .inside; is = h .is; term = h .term; isType = type; rules = d }
+
 -- ---- complete: a typed term is accepted, with its length, its depth and its type
 pub complete-entry : Complete
 complete-entry ds ws n t S h =
@@ -59,9 +64,9 @@ module _ (ds ws : List ℕ) (n : ℕ) where
 
   sound-by : (a b c : Bool) → eqb (length ws) maxWords ≡ a → goodDeclarations ds ≡ b → isTerm (namesIn ds) ws n ≡ c → typingOf ds ws n .code ≡ 0
       → (t : Tree) × (S : Sort) × TypedTerm ds ws n t S
-  sound-by false b c size good test e = absurd (omega (arith, not-refused 1 0 (wrong-size ds ws n (eqb-false _ _ size)) e))
-  sound-by true false c size good test e = absurd (omega (arith, not-refused 7 0 (bad-declarations ds ws n (eqb-true _ _ size) good) e))
-  sound-by true true false size good test e = absurd (omega (arith, not-refused 8 0 (no-term ds ws n (eqb-true _ _ size) good test) e))
+  sound-by false b c size good test e = absurd (omega (arith, not-refused 1 0 (W.wrong-size ds ws n (eqb-false _ _ size)) e))
+  sound-by true false c size good test e = absurd (omega (arith, not-refused 7 0 (W.bad-declarations ds ws n (eqb-true _ _ size) good) e))
+  sound-by true true false size good test e = absurd (omega (arith, not-refused 8 0 (W.no-term ds ws n (eqb-true _ _ size) good test) e))
   sound-by true true true size good test e =
       let h = here (namesIn ds) ws n test in
       let a = answer-on ds ws n (h .tree) (eqb-true _ _ size) good (h .inside) (h .is) (h .term) in
@@ -88,9 +93,32 @@ pub place-entry : Places
 unfolding answerOf
 place-entry ds ws n t size good inside is term h =
     let W = well-formed ds good in
-    let u = no-sort W t h in
+    let u = P.no-sort W t h in
     (u .0, first-untyped W t (u .0) (u .1), answer-on ds ws n t size good inside is term ∙ ap (answerOf n (depth t)) (u .1))
 
--- ---- the same rules type a part
-pub part-entry : Parts
-part-entry ds ws at good some shallow = the-part ds ws at good some shallow
+-- ---- every answer, with what it says
+module _ (ds ws : List ℕ) (n : ℕ) where
+  term-by : (t : Tree) → HeldTerm ds ws n t → (T : Typed) → typeOf (contextIn ds) 0 t ≡ T → Verdict ds ws n (answerOf n (depth t) T)
+  unfolding answerOf
+  term-by t h (untyped k) e =
+      no-sort h (λ s. let z = complete (contextIn ds) (s .1) 0 in let x : _≡_ {A = ℕ} 0 1 = cc in omega arith) (first-untyped (well-formed ds (h .good)) t k e)
+  term-by t h (typed (index σ)) e = no-type h (sound (well-formed ds (h .good)) 0 t e) (λ x. x)
+  term-by t h (typed (basis σ)) e = no-type h (sound (well-formed ds (h .good)) 0 t e) (λ x. x)
+  term-by t h (typed scalar) e = a-type (typed-by h tt (sound (well-formed ds (h .good)) 0 t e))
+  term-by t h (typed (ket σ)) e = a-type (typed-by h tt (sound (well-formed ds (h .good)) 0 t e))
+  term-by t h (typed (bra σ)) e = a-type (typed-by h tt (sound (well-formed ds (h .good)) 0 t e))
+  term-by t h (typed (operator σ τ)) e = a-type (typed-by h tt (sound (well-formed ds (h .good)) 0 t e))
+
+  decided-by : (a b c : Bool) → eqb (length ws) maxWords ≡ a → goodDeclarations ds ≡ b → isTerm (namesIn ds) ws n ≡ c → Verdict ds ws n (typingOf ds ws n)
+  decided-by false b c size good test = rw (W.wrong-size ds ws n (eqb-false _ _ size)) (wrong-size (eqb-false _ _ size))
+  decided-by true false c size good test = rw (W.bad-declarations ds ws n (eqb-true _ _ size) good) (bad-declarations (eqb-true _ _ size) good)
+  decided-by true true false size good test =
+      rw (W.no-term ds ws n (eqb-true _ _ size) good test)
+      (no-term (eqb-true _ _ size) good (λ t h. let z : false ≡ true = sym test ∙ term-in (namesIn ds) ws n (h .inside) ∙ rw (← h .is) (tree-term (namesIn ds) t (h .term)) in let x : _≡_ {A = ℕ} 0 1 = cc in omega arith))
+  decided-by true true true size good test =
+      let h = here (namesIn ds) ws n test in
+      let k : HeldTerm ds ws n (h .tree) = record { size = eqb-true _ _ size; good = good; inside = h .inside; is = h .is; term = h .term } in
+      rw (answer-on ds ws n (h .tree) (eqb-true _ _ size) good (h .inside) (h .is) (h .term)) (term-by (h .tree) k (typeOf (contextIn ds) 0 (h .tree)) refl)
+
+pub decided : Decided
+decided ds ws n = decided-by ds ws n _ _ _ refl refl refl

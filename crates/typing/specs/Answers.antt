@@ -1,12 +1,12 @@
 -- The answer of "the typing of one term": document 01, "What comes out, by whose doing".
 use mathlib.Core.Path.{_≡_}
-use mathlib.Core.Bool.{true, cond, _&&_}
+use mathlib.Core.Bool.{true, cond}
 use mathlib.Core.List.{List, [], _++_}
 use Prim.Native.Nat.{ℕ, _≤_}
-use lib.Dec.{eqb, leb, ltb}
-use lib.ListN.{length, take, drop, replicate}
-use Rattle.term.specs.Parts.{parse, part, treeIn}
-use Rattle.term.specs.Terms.{maxWords, maxDepth, partDepth, IsTerm, isTerm}
+use lib.Dec.{eqb}
+use lib.ListN.{length, take, replicate}
+use Rattle.term.specs.Parts.{parse, treeIn}
+use Rattle.term.specs.Terms.{maxWords, partDepth, IsTerm, isTerm}
 use Rattle.term.specs.Trees.{Tree, words}
 use Rattle.typing.specs.declared.terms.Kind as K
 use Rattle.typing.specs.declared.terms.Kind.the-variants as Kinds
@@ -66,18 +66,16 @@ typingOf ds ws n =
     (refuse 7 0))
     (refuse 1 0)
 
--- The same of the part that begins at an offset of any words, for those who rewrite it: 7; 8 where no whole part begins there, or it is deeper than a term; 10, with the
--- offset in the part; 11
-unfoldable pub partTypingOf : List ℕ → List ℕ → ℕ → A.Typing
-unfolding refuse answerOf goodDeclarations part partDepth typeOf contextIn treeIn
-partTypingOf ds ws at =
-    cond (goodDeclarations ds)
-    (cond (ltb 0 (length (part ws at)) && leb (partDepth ws at) maxDepth)
-    (answerOf (length (part ws at)) (partDepth ws at) (typeOf (contextIn ds) 0 (treeIn (parse (drop at ws)))))
-    (refuse 8 0))
-    (refuse 7 0)
+-- ---- what an answer means by the published rules
+-- the first n words of the slice are a term's, under good declarations
+pub record HeldTerm (ds ws : List ℕ) (n : ℕ) (t : Tree) : Type 0 where
+  pub size : length ws ≡ maxWords
+  pub good : goodDeclarations ds ≡ true
+  pub inside : n ≤ length ws
+  pub is : words t ≡ take n ws
+  pub term : IsTerm (namesIn ds) t
 
--- ---- what an accepted answer means by the published rules: the first n words of the slice are a term, and it has a type
+-- and the term has a type
 pub record TypedTerm (ds ws : List ℕ) (n : ℕ) (t : Tree) (S : Sort) : Type 0 where
   pub size : length ws ≡ maxWords
   pub good : goodDeclarations ds ≡ true

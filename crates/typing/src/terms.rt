@@ -5,7 +5,6 @@ use crate::sorts::number;
 use declarations::are_good;
 use declarations::names_of;
 use term::heads::Class;
-use term::parts::part_end;
 use term::terms::depth_at;
 use term::terms::is_term;
 ghost use mathlib.Core.Path.{_≡_};
@@ -16,7 +15,7 @@ ghost use Rattle.term.specs.Parts.{parse, part, treeIn};
 ghost use Rattle.term.specs.Terms.{partDepth};
 ghost use Rattle.types.specs.TypeOf.{typeOf};
 ghost use Rattle.declarations.specs.Declarations.{contextIn, goodDeclarations};
-ghost use Rattle.typing.specs.Answers.{sizesOf, refuse, answerOf, typingOf, partTypingOf};
+ghost use Rattle.typing.specs.Answers.{sizesOf, refuse, answerOf, typingOf};
 ghost use Rattle.typing.specs.Code.Accepting.{accept, answerTo};
 
 // The kind of a type, with the lengths of its indices.
@@ -171,22 +170,4 @@ pub fn type_term(ds: &[u16], ws: &[u16], n: usize) -> Typing
         return refused_with(8, 0);
     }
     typed_as(ds, &ws[..n], n)
-}
-
-// The type of the part that begins at `at` in any words: 7 for bad declarations, 8 where no whole part begins there or it is deeper than a term, 10 with the
-// offset in the part, and 11.
-pub fn type_at(ds: &[u16], ws: &[u16], at: usize) -> Typing
-    ensures { λ r. ⌜ r ≡ partTypingOf (now (ds .entry)) (now (ws .entry)) at ⌝ }
-{
-    if !are_good(ds) {
-        return refused_with(7, 0);
-    }
-    let end = part_end(ws, at);
-    if end == at {
-        return refused_with(8, 0);
-    }
-    if 64 < depth_at(ws, at) {
-        return refused_with(8, 0);
-    }
-    typed_as(ds, &ws[at..], end - at)
 }

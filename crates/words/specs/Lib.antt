@@ -1,2 +1,3 @@
--- Runs of words.
+-- Runs of words, and lists by number.
 pub mod Words
+pub mod Listed

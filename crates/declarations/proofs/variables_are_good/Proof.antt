@@ -7,7 +7,7 @@ use borrow.Author.Count.{below-none, below-more}
 use borrow.Author.Tests.{not-true, not-false}
 use borrow.Author.Needs.{needs}
 use Rattle.declarations.specs.Declarations.{goodVariable}
-use Rattle.declarations.proofs.Entries.{allUpTo-all, allUpTo-fails}
+use Rattle.words.proofs.Listed.{allUpTo-all, allUpTo-fails}
 use Rattle.declarations.proofs.variables_are_good.Statement.{statement}
 use Rattle.declarations.proofs.variables_are_good.Tie as tie
 

@@ -4,31 +4,21 @@ use mathlib.Core.Bool.{Bool, true, false, cond, _&&_, _||_}
 use mathlib.Core.List.{List, [], _∷_, _++_}
 use Prim.Native.Nat.{ℕ, _+_, _-_, _/_, _%_, _≤_, _<_}
 use lib.Dec.{eqb, ltb}
-use lib.ListN.{length, take, drop, getD}
-use Rattle.term.specs.Trees.{Tree, Forest, _▹_, words, depth}
-use Rattle.term.specs.Parts.{parse}
+use lib.ListN.{length, take, drop}
+use Rattle.term.specs.Trees.{Tree, words}
 use Rattle.term.specs.Terms.{maxDepth}
 use Rattle.types.specs.Sorts.{Sort, Context}
 use Rattle.declarations.specs.Declarations.{goodDeclarations}
-use Rattle.typing.specs.declared.terms.TermType as T
-use Rattle.typing.specs.Answers.{sizesOf}
 use Rattle.rules.specs.Patterns.{firstIndex, secondIndex, sortOf}
 use Rattle.rules.specs.Rewrite.{holes}
-use Rattle.step.specs.declared.building.Index as I
 use Rattle.step.specs.declared.matching.Match.{Match}
 use Rattle.step.specs.Code.Matching.{startOf, endOf}
+use Rattle.step.specs.Code.Shapes.{Begins, Sorted}
 
 -- the first or the second index of a sort
 abbrev pub chosenIndex : Bool → Sort → Tree
 chosenIndex true S = secondIndex S
 chosenIndex false S = firstIndex S
-
--- the same in the record of a type: an operator's second is that of its columns, as is a bra's only one
-unfoldable pub indexIn : T.TermType → Bool → I.Index
-indexIn t true =
-    cond (eqb (sizesOf (t .kind) .number) 3) (record { n = sizesOf (t .kind) .columns; words = t .columns }) (record { n = 0; words = t .columns })
-indexIn t false =
-    cond (eqb (sizesOf (t .kind) .number) 2) (record { n = sizesOf (t .kind) .columns; words = t .columns }) (record { n = sizesOf (t .kind) .rows; words = t .rows })
 
 -- what a word of a right side stands for: a hole (255:k) for what it holds, 254:k and 253:k for the first and the second index of its type, any other for itself
 unfoldable pub piece : Context → List Tree → ℕ → List ℕ
@@ -51,12 +41,12 @@ unfolding asks
 allAsk n [] = true
 allAsk n (w ∷ ws) = asks n w && allAsk n ws
 
--- the trees that the holes hold, of the part that begins at a place in a term
+-- the trees that the holes hold, of the part that begins at a place in a term: all of them typed
 pub record Caught (ds term : List ℕ) (place : ℕ) (m : Match) (c : List Tree) : Type 0 where
   pub good : goodDeclarations ds ≡ true
   pub many : m .held ≡ length c
   pub few : length c ≤ 5
   pub spans : (k : ℕ) → k < 5 → (startOf m k ≤ endOf m k) × (place + endOf m k ≤ length term)
   pub are : (k : ℕ) → k < length c → take (endOf m k - startOf m k) (drop (place + startOf m k) term) ≡ words (holes c k)
-  pub there : (k : ℕ) → k < length c → ((f : Forest) × (parse (drop (place + startOf m k) term) ≡ holes c k ▹ f))
-  pub shallow : (k : ℕ) → k < length c → depth (holes c k) ≤ maxDepth
+  pub begins : (k : ℕ) → k < length c → Begins (drop (place + startOf m k) term) maxDepth (holes c k)
+  pub sorted : (k : ℕ) → k < length c → Sorted ds (holes c k)

@@ -21,6 +21,15 @@ pub record Termed (ds term : List ℕ) : Type 0 where
   pub typed : Typed (contextIn ds) sort tree
   pub is : words tree ≡ term
 
+-- a place of a term at which a part begins
+pub record Seated (term : List ℕ) (place : ℕ) : Type 0 where
+  pub tree : Tree
+  pub is : words tree ≡ term
+  pub formed : Formed tree
+  pub shallow : depth tree ≤ maxDepth
+  pub part : Tree
+  pub there : subtree tree place ≡ found part
+
 -- a part of it that gives way to a result, whose words stand in the scratch slice as far as they fit
 pub record Fresh (term : List ℕ) (place end : ℕ) (out : List ℕ) (new : ℕ) : Type 0 where
   pub tree : Tree

@@ -1,4 +1,4 @@
--- Where a rule is tried: a part of a term, under good declarations.
+-- Where a rule is tried: a typed part of a term, under good declarations.
 use mathlib.Core.Path.{_≡_}
 use mathlib.Core.Bool.{true}
 use mathlib.Core.List.{List, _++_}
@@ -8,7 +8,9 @@ use lib.ListN.{length}
 use Rattle.term.specs.Heads.{Label}
 use Rattle.term.specs.Trees.{Tree, words, Formed, depth}
 use Rattle.term.specs.Terms.{maxDepth}
-use Rattle.declarations.specs.Declarations.{goodDeclarations}
+use Rattle.types.specs.Sorts.{Sort}
+use Rattle.types.specs.Rules.{_⊢_∶_}
+use Rattle.declarations.specs.Declarations.{contextIn, goodDeclarations}
 use Rattle.rules.specs.Patterns.{Pattern}
 use Rattle.rules.specs.Table.{Kind, Which, child, child-i, Summand, Rule, _⇒_▷_, spreading, removing, absorbing, merging, collecting, swapping, ruleOf}
 use Rattle.rulebook.specs.declared.Row.{Row}
@@ -21,6 +23,8 @@ pub record Site (ds term : List ℕ) (place end : ℕ) : Type 0 where
   pub tree : Tree
   pub formed : Formed tree
   pub shallow : depth tree ≤ maxDepth
+  pub sort : Sort
+  pub typed : contextIn ds ⊢ tree ∶ sort
   pub before : List ℕ
   pub after : List ℕ
   pub whole : term ≡ before ++ (words tree ++ after)

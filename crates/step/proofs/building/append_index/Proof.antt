@@ -1,66 +1,100 @@
--- The index that was found is written, or the scalar 0 where there is none.
-use mathlib.Core.Path.{_≡_, sym}
+-- The kind decides which side is written, or that there is none.
+use mathlib.Core.Path.{_≡_, refl}
+use mathlib.Core.Bool.{true, false}
+use Prim.Native.Nat.{_-_}
 use native.Mathlib.Omega.{arith}
 use borrow.Author.Needs.{needs}
-use lib.ListN.{length, drop}
-use Rattle.term.specs.Trees.{words}
-use Rattle.term.specs.Parts.{parse, treeIn}
-use Rattle.declarations.specs.Declarations.{contextIn}
-use Rattle.rules.specs.Patterns.{sortOf}
-use Rattle.step.specs.Code.Building.{chosenIndex}
+use lib.ListN.{length, take, drop}
+use Rattle.step.specs.Code.Shapes.{kindOf, Begins}
 use Rattle.step.proofs.Added.{added-as}
-use Rattle.step.proofs.Indices.{Held, held-none, held-some, index-found}
+use Rattle.step.proofs.Beginnings.{tail-room, tail-begins}
+use Rattle.step.proofs.Indices.{second-there, second-missing, first-there, first-missing, index-of}
 use Rattle.step.proofs.building.append_index.Statement.{statement}
 use Rattle.step.proofs.building.append_index.Tie as tie
 
--- the index that was found of the part's type
-found : (c : tie.After-words)
-    → let args = c .before .before .before .before .before .before .before .args in
-    Held (words (chosenIndex (args .second) (sortOf (contextIn (args .ds .now)) (treeIn (parse (drop (args .from) (args .term .now))))))) (c .before .index-in .result)
-found c =
-    let pre = c .before .before .before .before .before .before .before .pre in
-    index-found _ _ _ _ _ _ (pre .0) (pre .1) (pre .2) (c .before .before .before .type-at .ensures) (c .before .index-in .ensures)
+-- the part at the front of the words that are lent
+tail : (c : tie.After-slice-known) → let args = c .before .before .before .args in Begins (take (length (args .term .now) - args .from) (drop (args .from) (args .term .now))) 64 (c .before .before .before .pre .1 .0)
+tail c = tail-begins (c .before .before .before .args .term .now) (c .before .before .before .args .from) (c .before .before .before .pre .1 .1)
 
-type-at-requires : tie.Need-type-at-requires
-type-at-requires c κs = search needs
+-- the kind that was read off
+found : (c : tie.After-kind-of) → c .kind-of .result ≡ kindOf (c .before .before .before .before .before .pre .1 .2 .0)
+found c = let x = c .before .before .before .before .before .pre .1 in c .kind-of .ensures (x .0) (x .2 .0) (tail (c .before .before)) (x .2 .1)
 
-index-in-requires : tie.Need-index-in-requires
-index-in-requires c κs = search needs
+mul-part : tie.Need-mul-part
+mul-part c = omega (arith, tail-room (c .before .before .before .args .term .now) (c .before .before .before .args .from) (c .before .before .before .pre .1 .1))
 
-append-word-requires : tie.Need-append-word-requires
-append-word-requires c κs = search needs
+sub-part : tie.Need-sub-part
+sub-part c = omega (arith, tail-room (c .before .before .before .args .term .now) (c .before .before .before .args .from) (c .before .before .before .pre .1 .1))
+
+part-part-start : tie.Need-part-part-start
+part-part-start c = omega (arith, tail-room (c .before .before .before .args .term .now) (c .before .before .before .args .from) (c .before .before .before .pre .1 .1))
+
+part-part-end : tie.Need-part-part-end
+part-part-end c = search needs
+
+kind-of-requires : tie.Need-kind-of-requires
+kind-of-requires c κs = let x = c .before .before .before .before .pre .1 in (c .before .before .before .before .pre .0, (x .0, tail (c .before), x .2))
+
+append-side-requires : tie.Need-append-side-requires
+append-side-requires c κs = let x = c .before .before .before .before .before .before .before .before .pre .1 in (c .before .before .before .before .before .before .before .before .pre .0, (x .0, _, tail (c .before .before .before .before .before), (x .2 .0, x .2 .1, second-there _ (x .2 .0) (found (c .before .before .before)) (c .before .if2 .taken))))
 
 same-length : tie.Need-same-length
 same-length c = search needs
 
 returns : tie.Need-returns
-returns c = added-as (sym (held-none (found (c .before .before .before .before .before)) (c .before .before .before .before .if1 .taken))) (c .before .before .append-word .ensures)
+returns c =
+    let x = c .before .before .before .before .before .before .before .before .before .before .before .pre .1 in
+    let side = second-there _ (x .2 .0) (found (c .before .before .before .before .before .before)) (c .before .before .before .before .if2 .taken) in
+    added-as (index-of (x .1) (x .2 .1) true _ (c .before .before .before .before .before .if1 .taken) refl) (c .before .before .append-side .ensures (x .0) _ (tail (c .before .before .before .before .before .before .before .before)) (x .2 .0, x .2 .1, side))
 
-slice-aggregate-append-run : tie.Need-slice-aggregate-append-run
-slice-aggregate-append-run c = search needs
-
-append-run-requires : tie.Need-append-run-requires
-append-run-requires c κs =
-    let h = held-some (found (c .before .before .before)) (c .before .before .if1 .left) in
-    let l : length (c .before .before .before .before .index-in .result .words) ≡ 63 = search needs in
-    (omega arith, omega (arith, h .0))
+append-word-requires : tie.Need-append-word-requires
+append-word-requires c κs = search needs
 
 same-length-2 : tie.Need-same-length-2
 same-length-2 c = search needs
 
 returns-2 : tie.Need-returns-2
-returns-2 c = added-as (held-some (found (c .before .before .before .before .before .before)) (c .before .before .before .before .before .if1 .left) .1) (c .before .before .append-run .ensures)
+returns-2 c = let x = c .before .before .before .before .before .before .before .before .before .before .before .pre .1 in added-as (index-of (x .1) (x .2 .1) true _ (c .before .before .before .before .before .if1 .taken) (second-missing _ (x .2 .0) (found (c .before .before .before .before .before .before)) (c .before .before .before .before .if2 .left))) (c .before .before .append-word .ensures)
+
+append-word-requires-2 : tie.Need-append-word-requires-2
+append-word-requires-2 c κs = search needs
+
+same-length-3 : tie.Need-same-length-3
+same-length-3 c = search needs
+
+returns-3 : tie.Need-returns-3
+returns-3 c = let x = c .before .before .before .before .before .before .before .before .before .before .before .pre .1 in added-as (index-of (x .1) (x .2 .1) false _ (c .before .before .before .before .before .if1 .left) (first-missing _ (x .2 .0) (found (c .before .before .before .before .before .before)) (c .before .before .before .before .if3 .taken))) (c .before .before .append-word2 .ensures)
+
+append-side-requires-2 : tie.Need-append-side-requires-2
+append-side-requires-2 c κs = let x = c .before .before .before .before .before .before .before .before .pre .1 in (c .before .before .before .before .before .before .before .before .pre .0, (x .0, _, tail (c .before .before .before .before .before), (x .2 .0, x .2 .1, first-there _ (x .2 .0) (found (c .before .before .before)) (c .before .if3 .left))))
+
+same-length-4 : tie.Need-same-length-4
+same-length-4 c = search needs
+
+returns-4 : tie.Need-returns-4
+returns-4 c =
+    let x = c .before .before .before .before .before .before .before .before .before .before .before .pre .1 in
+    added-as (index-of (x .1) (x .2 .1) false _ (c .before .before .before .before .before .if1 .left) refl)
+    (c .before .before .append-side2 .ensures (x .0) _ (tail (c .before .before .before .before .before .before .before .before)) (x .2 .0, x .2 .1, first-there _ (x .2 .0) (found (c .before .before .before .before .before .before)) (c .before .before .before .before .if3 .left)))
 
 pub append-index-spec : {M : Type 1} → statement M
 append-index-spec =
     tie.close
     (tie.spec
-    type-at-requires
-    index-in-requires
-    append-word-requires
+    mul-part
+    sub-part
+    part-part-start
+    part-part-end
+    kind-of-requires
+    append-side-requires
     same-length
     returns
-    slice-aggregate-append-run
-    append-run-requires
+    append-word-requires
     same-length-2
-    returns-2)
+    returns-2
+    append-word-requires-2
+    same-length-3
+    returns-3
+    append-side-requires-2
+    same-length-4
+    returns-4)

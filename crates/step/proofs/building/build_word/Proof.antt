@@ -4,7 +4,7 @@ use Prim.Native.Nat.{_%_, _<_}
 use native.Mathlib.Omega.{arith}
 use borrow.Author.Needs.{needs}
 use Rattle.step.proofs.Added.{added-as}
-use Rattle.step.proofs.Pieces.{piece-word, piece-hole, piece-index, asked-hole, caught-bounds, caught-run, caught-tree, caught-part, caught-shallow}
+use Rattle.step.proofs.Pieces.{piece-word, piece-hole, piece-index, asked-hole, caught-bounds, caught-run, caught-tree, caught-kind}
 use Rattle.step.proofs.building.build_word.Statement.{statement}
 use Rattle.step.proofs.building.build_word.Tie as tie
 
@@ -55,7 +55,7 @@ add-append-index : tie.Need-add-append-index
 add-append-index c = let b = caught-bounds (c .before .before .before .before .before .before .before .pre .0 .1) _ (hole (c .before .before .before)) in search needs
 
 append-index-requires : tie.Need-append-index-requires
-append-index-requires c κs = let h = c .before .before .before .before .before .before .before .before .pre .0 .1 in let k = hole (c .before .before .before .before) in (h .good, caught-part h _ k, caught-shallow h _ k)
+append-index-requires c κs = caught-kind (c .before .before .before .before .before .before .before .before .pre .0 .1) _ (hole (c .before .before .before .before))
 
 same-length-3 : tie.Need-same-length-3
 same-length-3 c = search needs

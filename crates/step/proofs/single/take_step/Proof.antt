@@ -3,7 +3,8 @@ use mathlib.Core.Path.{refl, sym, _∙_, ap}
 use borrow.Author.Needs.{needs}
 use borrow.Author.Tests.{ne-eqb}
 use Rattle.typing.specs.declared.terms.Typing.{Typing}
-use Rattle.step.proofs.Taking.{untouched, all-zeros, cleared-accepted, entry-done}
+use Rattle.step.proofs.Putting.{cleared-twice}
+use Rattle.step.proofs.Taking.{inside-slice, untouched, all-zeros, cleared-accepted, entry-done}
 use Rattle.step.proofs.single.take_step.Statement.{statement}
 use Rattle.step.proofs.single.take_step.Tie as tie
 
@@ -42,7 +43,9 @@ slice-aggregate-step-on c = search needs
 step-on-requires : tie.Need-step-on-requires
 step-on-requires c κs =
     let e = ap (λ (t : Typing). t .code) (c .before .before .before .before .before .before .before .before .before .before .type-term .ensures) in
-    (rw (c .before .before .before .before .clear-from2 .ensures) (cleared-accepted _ _ _ (sym e ∙ c .before .before .before .before .before .before .if2 .left)), refl)
+    let a = sym e ∙ c .before .before .before .before .before .before .if2 .left in
+    let z = c .before .before .before .before .clear-from2 .ensures in
+    (rw z (cleared-accepted _ _ _ a), rw z (cleared-twice _ _ (inside-slice _ _ _ a)), refl)
 
 cast-at : tie.Need-cast-at
 cast-at c = search needs

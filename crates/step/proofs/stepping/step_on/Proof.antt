@@ -14,7 +14,7 @@ slice-aggregate-make : tie.Need-slice-aggregate-make
 slice-aggregate-make c = sym (length-take-le _ _ (inside-slice _ _ _ (c .before .before .before .before .pre .0)))
 
 make-requires : tie.Need-make-requires
-make-requires c κs = (termed _ _ _ (c .before .before .before .before .before .pre .0), c .before .before .before .before .before .pre .1)
+make-requires c κs = (termed _ _ _ (c .before .before .before .before .before .pre .0), c .before .before .before .before .before .pre .2)
 
 same-length : tie.Need-same-length
 same-length c = search needs
@@ -25,7 +25,7 @@ same-length-2 c = search needs
 returns : tie.Need-returns
 returns c =
     let a = c .before .before .before .before .before .before .before .before .before .before .pre .0 in
-    refuses _ _ _ a _ _ _ (made-for _ _ _ a _ _ _ (c .before .before .before .before .make .ensures)) (c .if1 .taken)
+    refuses _ _ _ a _ _ _ (made-for _ _ _ a _ _ _ (c .before .before .before .before .make .ensures)) (c .if1 .taken) (c .before .before .before .before .before .before .before .before .before .before .pre .1)
 
 cast-place : tie.Need-cast-place
 cast-place c = search needs
@@ -43,8 +43,11 @@ slice-aggregate-put c =
 put-requires : tie.Need-put-requires
 put-requires c κs =
     let a = c .before .before .before .before .before .before .before .before .before .before .before .before .before .pre .0 in
-    let m = made-for _ _ _ a _ _ _ (c .before .before .before .before .before .before .before .make .ensures) in
-    rw (length-take-le _ _ (room-out _ _ _ a _ _ _ m (c .before .before .before .if1 .left))) (room _ _ _ a _ _ _ m (c .before .before .before .if1 .left))
+    let m = made-for _ _ _ a _ _ _ (c .before .before .before .before .before .before .before .make .ensures) in (
+      rw (length-take-le _ _ (room-out _ _ _ a _ _ _ m (c .before .before .before .if1 .left))) (room _ _ _ a _ _ _ m (c .before .before .before .if1 .left)),
+      inside-slice _ _ _ a,
+      c .before .before .before .before .before .before .before .before .before .before .before .before .before .pre .1,
+    )
 
 add-t19 : tie.Need-add-t19
 add-t19 c =

@@ -1,0 +1,166 @@
+-- The first fault, from what typing says of the two sides.
+use mathlib.Core.Path.{_≡_, refl, sym, _∙_}
+use mathlib.Core.Logic.{_≢_}
+use mathlib.Core.Bool.{Bool, true, false, cond, and-true}
+use mathlib.Core.List.{List}
+use Prim.Native.Nat.{ℕ}
+use native.Mathlib.Omega.{arith}
+use borrow.Author.Tests.{eq-eqb, ne-eqb, eqb-true, eqb-false}
+use lib.Dec.{eqb}
+use lib.ListN.{length, take}
+use Rattle.words.specs.Words.{sameWords}
+use Rattle.words.proofs.Runs.{same-words}
+use Rattle.term.specs.Parts.{parse, treeIn}
+use Rattle.term.specs.Terms.{maxWords}
+use Rattle.term.specs.Trees.{Tree, depth}
+use Rattle.types.specs.Sorts.{Sort, index, basis, scalar, ket, bra, operator}
+use Rattle.types.specs.Rules.{_⊢_∶_, IsType}
+use Rattle.types.specs.First.{HasSort, FirstUntyped}
+use Rattle.types.specs.TypeOf as T
+use Rattle.types.proofs.Proper.{proper}
+use Rattle.declarations.specs.Declarations.{contextIn, goodDeclarations}
+use Rattle.declarations.proofs.Entries.{well-formed}
+use Rattle.typing.specs.declared.terms.TermType.{TermType}
+use Rattle.typing.specs.declared.terms.Typing.{Typing}
+use Rattle.typing.specs.Answers.{refuse, typing, answerOf, typingOf, sizesOf, HeldTerm, TypedTerm}
+use Rattle.typing.specs.Statements as Said
+use Rattle.typing.proofs.Theorems.{complete-entry, decided}
+use Rattle.rules.specs.Steps.{Sides}
+use Rattle.lent.specs.declared.faults.Fault.{Fault}
+use Rattle.lent.specs.Lent.{stepsFault}
+use Rattle.lent.specs.Faults.{sameSizes, sameType, fault, typesFault, earlyCode, faultOf, faultIn}
+use Rattle.lent.specs.Refusals.{InOrder, Begun, Refused, wrong-size, bad-declarations, no-term, bad-steps, left-untyped, left-no-type, right-untyped, right-no-type, types-differ, Judged, found, none}
+use Rattle.lent.specs.Statements.{Judges}
+use Rattle.lent.proofs.Tests.{fitting, in-order, of-type, answers-same, sorts-same}
+
+-- ---- one side: what typing says, by its code and place
+data Late (ds ws : List ℕ) (n : ℕ) (t : Tree) : ℕ → ℕ → Type 0 where
+  unsorted : {k : ℕ} → (HasSort (contextIn ds) t → ⊥) → FirstUntyped (contextIn ds) t k → Late ds ws n t 10 k
+  untyped : {S : Sort} → contextIn ds ⊢ t ∶ S → (IsType S → ⊥) → Late ds ws n t 11 0
+  typed : {S : Sort} → TypedTerm ds ws n t S → Late ds ws n t 0 0
+
+data Side (ds ws : List ℕ) (n : ℕ) : ℕ → ℕ → Type 0 where
+  of-size : length ws ≢ maxWords → Side ds ws n 1 0
+  of-declarations : length ws ≡ maxWords → goodDeclarations ds ≡ false → Side ds ws n 7 0
+  of-term : length ws ≡ maxWords → goodDeclarations ds ≡ true → ((t : Tree) → HeldTerm ds ws n t → ⊥) → Side ds ws n 8 0
+  late : {t : Tree} {c k : ℕ} → HeldTerm ds ws n t → Late ds ws n t c k → Side ds ws n c k
+
+-- a type is accepted, at 0
+pub type-code : (n d : ℕ) (S : Sort) → IsType S → answerOf n d (T.typed S) .code ≡ 0
+unfolding answerOf typing
+type-code n d (index σ) h = absurd h
+type-code n d (basis σ) h = absurd h
+type-code n d scalar h = refl
+type-code n d (ket σ) h = refl
+type-code n d (bra σ) h = refl
+type-code n d (operator σ τ) h = refl
+
+type-at : (n d : ℕ) (S : Sort) → IsType S → answerOf n d (T.typed S) .at ≡ 0
+unfolding answerOf typing
+type-at n d (index σ) h = absurd h
+type-at n d (basis σ) h = absurd h
+type-at n d scalar h = refl
+type-at n d (ket σ) h = refl
+type-at n d (bra σ) h = refl
+type-at n d (operator σ τ) h = refl
+
+pub held-of : {ds ws : List ℕ} {n : ℕ} {t : Tree} {S : Sort} → TypedTerm ds ws n t S → HeldTerm ds ws n t
+held-of h = record { size = h .size; good = h .good; inside = h .inside; is = h .is; term = h .term }
+
+side-of : {ds ws : List ℕ} {n : ℕ} {r : Typing} → Said.Verdict ds ws n r → Side ds ws n (r .code) (r .at)
+unfolding refuse
+side-of (Said.wrong-size h) = of-size h
+side-of (Said.bad-declarations h g) = of-declarations h g
+side-of (Said.no-term h g x) = of-term h g x
+side-of (Said.no-sort h x f) = late h (unsorted x f)
+side-of (Said.no-type h d x) = late h (untyped d x)
+side-of {n} (Said.a-type {t} {S} h) = rw (type-code n (depth t) S (h .isType), type-at n (depth t) S (h .isType)) (late (held-of h) (typed h))
+
+late-size : {ds ws : List ℕ} {n : ℕ} {t : Tree} {c k : ℕ} → Late ds ws n t c k → (c ≢ 1) × (c ≢ 7) × (c ≢ 8)
+late-size (unsorted x f) = (λ e. omega arith, λ e. omega arith, λ e. omega arith)
+late-size (untyped d x) = (λ e. omega arith, λ e. omega arith, λ e. omega arith)
+late-size (typed h) = (λ e. omega arith, λ e. omega arith, λ e. omega arith)
+
+-- ---- both sides
+pub not-both : {b : Bool} → b ≡ false → b ≡ true → ⊥
+not-both e f = let z : _≡_ {A = ℕ} 0 1 = cc in omega arith
+
+type-same : (a : TermType) → sameType a a ≡ true
+unfolding sameType sameSizes
+type-same a = let x = sizesOf (a .kind) in rw (eq-eqb (x .number) (x .number) refl, eq-eqb (x .rows) (x .rows) refl, eq-eqb (x .columns) (x .columns) refl, same-words (a .rows)) (same-words (a .columns))
+
+module _ (ds left : List ℕ) (n : ℕ) (right : List ℕ) (m : ℕ) (steps : List ℕ) (count : ℕ) where
+  abbrev Says : ℕ → ℕ → ℕ → Type 0
+  Says = Refused ds left n right m steps count
+
+  abbrev View : Fault → Type 0
+  View = Judged ds left n right m steps count
+
+  -- the two types agree where the answers' do
+  abbrev Agree : Bool → Type 0
+  Agree same = (t u : Tree) (S R : Sort) → TypedTerm ds left n t S → TypedTerm ds right m u R → (same ≡ true → S ≡ R) × (S ≡ R → same ≡ true)
+
+  abbrev late-fault : ℕ → ℕ → ℕ → ℕ → Bool → Fault
+  late-fault lc lk rc rk same = cond (eqb lc 0) (cond (eqb rc 0) (cond same (fault 0 0 0) (fault 12 0 0)) (fault rc 2 rk)) (fault lc 1 lk)
+
+  same-by : (same : Bool) → Agree same → InOrder steps count → (t u : Tree) (S R : Sort) → TypedTerm ds left n t S → TypedTerm ds right m u R → View (cond same (fault 0 0 0) (fault 12 0 0))
+  same-by true agree o t u S R h k = none {p = record { left = t; right = u }} (record { left-term = h; right-term = rw (agree t u S R h k .0 refl) k; order = o })
+  same-by false agree o t u S R h k =
+      found (types-differ o h k (λ e. let z = agree t u S R h k .1 e in let x : _≡_ {A = ℕ} 0 1 = cc in omega arith)) (omega arith)
+
+  types-by : {t u : Tree} {lc lk rc rk : ℕ} (same : Bool) → Agree same → InOrder steps count → HeldTerm ds left n t → HeldTerm ds right m u
+      → Late ds left n t lc lk → Late ds right m u rc rk → View (late-fault lc lk rc rk same)
+  types-by same agree o h k (unsorted x f) r = found (left-untyped (h, k) o x f) (omega arith)
+  types-by same agree o h k (untyped d x) r = found (left-no-type (h, k) o d x) (omega arith)
+  types-by same agree o h k (typed a) (unsorted x f) = found (right-untyped (h, k) o a x f) (omega arith)
+  types-by same agree o h k (typed a) (untyped d x) = found (right-no-type (h, k) o a d x) (omega arith)
+  types-by same agree o h k (typed a) (typed b) = same-by same agree o _ _ _ _ a b
+
+  abbrev whole : ℕ → ℕ → ℕ → ℕ → Bool → ℕ → Fault
+  whole lc lk rc rk same early = cond (eqb early 0) (late-fault lc lk rc rk same) (fault early 0 0)
+
+  -- the steps' own fault, behind the terms
+  steps-by : {t u : Tree} {lc lk rc rk : ℕ} (same : Bool) → Agree same → HeldTerm ds left n t → HeldTerm ds right m u → Late ds left n t lc lk → Late ds right m u rc rk
+      → (b : Bool) (s : ℕ) → s ≡ stepsFault steps count → eqb s 0 ≡ b → View (whole lc lk rc rk same s)
+  steps-by same agree h k l r true s e z = rw z (types-by same agree (fitting steps count (sym e ∙ eqb-true s 0 z)) h k l r)
+  steps-by same agree h k l r false s e z = rw z (found {c = s} {s = 0} {k = 0} (rw e (bad-steps (h, k) (λ o. eqb-false s 0 z (e ∙ in-order steps count o)))) (eqb-false s 0 z))
+
+  early-late : {t u : Tree} {lc lk rc rk s : ℕ} → Late ds left n t lc lk → Late ds right m u rc rk → earlyCode lc rc s ≡ s
+  unfolding earlyCode
+  early-late l r =
+      let a = late-size l in
+      let b = late-size r in
+      rw (ne-eqb _ 1 (a .0), ne-eqb _ 1 (b .0), ne-eqb _ 7 (a .1), ne-eqb _ 8 (a .2), ne-eqb _ 8 (b .2))
+
+  view-by : {lc lk rc rk : ℕ} (same : Bool) → Agree same → Side ds left n lc lk → Side ds right m rc rk → (s : ℕ) → s ≡ stepsFault steps count
+      → View (whole lc lk rc rk same (earlyCode lc rc s))
+  unfolding earlyCode
+  view-by same agree (of-size h) r s e = found (wrong-size (λ z. h (z .0))) (omega arith)
+  view-by same agree (of-declarations h g) (of-size k) s e = found (wrong-size (λ z. k (z .1))) (omega arith)
+  view-by same agree (of-declarations h g) (of-declarations k b) s e = found (bad-declarations (h, k) g) (omega arith)
+  view-by same agree (of-declarations h g) (of-term k b x) s e = absurd (not-both g b)
+  view-by same agree (of-declarations h g) (late k r) s e = absurd (not-both g (k .good))
+  view-by same agree (of-term h g x) (of-size k) s e = found (wrong-size (λ z. k (z .1))) (omega arith)
+  view-by same agree (of-term h g x) (of-declarations k b) s e = absurd (not-both b g)
+  view-by same agree (of-term h g x) (of-term k b y) s e = found (no-term (h, k) g (λ t u z. x t (z .0))) (omega arith)
+  view-by same agree (of-term h g x) (late k r) s e = rw (ne-eqb _ 1 (late-size r .0)) (found (no-term (h, k .size) g (λ t u z. x t (z .0))) (omega arith))
+  view-by same agree (late h l) (of-size k) s e = rw (ne-eqb _ 1 (late-size l .0)) (found (wrong-size (λ z. k (z .1))) (omega arith))
+  view-by same agree (late h l) (of-declarations k b) s e = absurd (not-both b (h .good))
+  view-by same agree (late h l) (of-term k b x) s e =
+      let a = late-size l in
+      rw (ne-eqb _ 1 (a .0), ne-eqb _ 7 (a .1), ne-eqb _ 8 (a .2)) (found (no-term (h .size, k) b (λ t u z. x u (z .1))) (omega arith))
+  view-by same agree (late h l) (late k r) s e = rw (early-late l r) (steps-by same agree h k l r _ s e refl)
+
+  agree-of : Agree (sameType (typingOf ds left n .of) (typingOf ds right m .of))
+  agree-of t u S R h k =
+      let W = well-formed ds (h .good) in
+      let a = complete-entry ds left n t S h in
+      let b = complete-entry ds right m u R k in (
+        λ e. sorts-same W S R (h .isType) (k .isType) (proper W (h .rules)) (proper W (k .rules)) (answers-same _ _ n (depth t) m (depth u) S R a b e),
+        λ e. rw (a, b, of-type n (depth t) S, of-type m (depth u) R, e) (type-same (answerOf 0 0 (T.typed R) .of)),
+      )
+
+pub judges : Judges
+unfolding faultIn faultOf typesFault
+judges ds left n right m steps count =
+    view-by ds left n right m steps count _ (agree-of ds left n right m steps count) (side-of (decided ds left n)) (side-of (decided ds right m)) (stepsFault steps count) refl

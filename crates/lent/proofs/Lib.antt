@@ -1,0 +1,4 @@
+-- The laws of what is lent.
+pub mod Lending
+pub mod Tests
+pub mod Judging

@@ -1,0 +1,57 @@
+-- The same without functions: what is refused before any step, and what it takes for a run to begin.
+use mathlib.Core.Path.{_≡_}
+use mathlib.Core.Logic.{_≢_}
+use mathlib.Core.Bool.{true, false}
+use mathlib.Core.List.{List}
+use Prim.Native.Nat.{ℕ, _≤_}
+use lib.ListN.{length}
+use Rattle.words.specs.Listed.{allUpTo}
+use Rattle.term.specs.Trees.{Tree}
+use Rattle.term.specs.Terms.{maxWords}
+use Rattle.types.specs.Sorts.{Sort}
+use Rattle.types.specs.Rules.{_⊢_∶_, IsType}
+use Rattle.types.specs.First.{HasSort, FirstUntyped}
+use Rattle.declarations.specs.Declarations.{contextIn, goodDeclarations}
+use Rattle.typing.specs.Answers.{HeldTerm, TypedTerm}
+use Rattle.rules.specs.Steps.{Sides}
+use Rattle.lent.specs.declared.faults.Fault.{Fault}
+use Rattle.lent.specs.Lent.{maxSteps, stepAt, sided, stepsFault}
+use Rattle.lent.specs.Faults.{fault}
+
+-- so many lent steps are in order: no more than 1,000, inside their slice, each on the left or the right
+pub record InOrder (ws : List ℕ) (n : ℕ) : Type 0 where
+  pub few : n ≤ maxSteps
+  pub inside : stepAt n ≤ length ws
+  pub sides : allUpTo n (sided ws) ≡ true
+
+module _ (ds left : List ℕ) (n : ℕ) (right : List ℕ) (m : ℕ) (steps : List ℕ) (count : ℕ) where
+  -- both slices of 4,096 words; both terms in them
+  abbrev Sized : Type 0
+  Sized = (length left ≡ maxWords) × (length right ≡ maxWords)
+
+  abbrev Terms : Tree → Tree → Type 0
+  Terms t u = HeldTerm ds left n t × HeldTerm ds right m u
+
+  -- What is refused before any step, each told apart from those before it. 01: "left 10, 11, right 10, 11, then 12"; the steps' own codes come as in a file, behind 8
+  pub data Refused : ℕ → ℕ → ℕ → Type 0 where
+    wrong-size : (Sized → ⊥) → Refused 1 0 0
+    bad-declarations : Sized → goodDeclarations ds ≡ false → Refused 7 0 0
+    no-term : Sized → goodDeclarations ds ≡ true → ((t u : Tree) → Terms t u → ⊥) → Refused 8 0 0
+    bad-steps : {t u : Tree} → Terms t u → (InOrder steps count → ⊥) → Refused (stepsFault steps count) 0 0
+    left-untyped : {t u : Tree} {k : ℕ} → Terms t u → InOrder steps count → (HasSort (contextIn ds) t → ⊥) → FirstUntyped (contextIn ds) t k → Refused 10 1 k
+    left-no-type : {t u : Tree} {S : Sort} → Terms t u → InOrder steps count → contextIn ds ⊢ t ∶ S → (IsType S → ⊥) → Refused 11 1 0
+    right-untyped : {t u : Tree} {S : Sort} {k : ℕ} → Terms t u → InOrder steps count → TypedTerm ds left n t S
+        → (HasSort (contextIn ds) u → ⊥) → FirstUntyped (contextIn ds) u k → Refused 10 2 k
+    right-no-type : {t u : Tree} {S R : Sort} → Terms t u → InOrder steps count → TypedTerm ds left n t S → contextIn ds ⊢ u ∶ R → (IsType R → ⊥) → Refused 11 2 0
+    types-differ : {t u : Tree} {S R : Sort} → InOrder steps count → TypedTerm ds left n t S → TypedTerm ds right m u R → (S ≡ R → ⊥) → Refused 12 0 0
+
+  -- two typed terms of one type, and steps in order
+  pub record Begun (p : Sides) (S : Sort) : Type 0 where
+    pub left-term : TypedTerm ds left n (p .left) S
+    pub right-term : TypedTerm ds right m (p .right) S
+    pub order : InOrder steps count
+
+  -- a fault that is found, or none
+  pub data Judged : Fault → Type 0 where
+    found : {c s k : ℕ} → Refused c s k → c ≢ 0 → Judged (fault c s k)
+    none : {p : Sides} {S : Sort} → Begun p S → Judged (fault 0 0 0)

@@ -1,0 +1,58 @@
+-- The step is taken on the side that is named; the other side stays.
+use mathlib.Core.Path.{_≡_, refl}
+use mathlib.Core.Bool.{true}
+use borrow.Author.Tests.{ne-eqb}
+use Rattle.lent.specs.Lent.{sideIn}
+use Rattle.step.proofs.Moving.{asks, moved-left, moved-right}
+use borrow.Author.Needs.{needs}
+use Rattle.step.proofs.running.move_side.Statement.{statement}
+use Rattle.step.proofs.running.move_side.Tie as tie
+
+step-on-requires : tie.Need-step-on-requires
+step-on-requires c κs =
+    let pre = c .before .before .before .before .before .before .before .pre in
+    let a = asks (pre .0 .2 .right) in
+    (a .0, a .1, pre .1)
+
+same-length : tie.Need-same-length
+same-length c = search needs
+
+same-length-2 : tie.Need-same-length-2
+same-length-2 c = search needs
+
+returns : tie.Need-returns
+unfolding sideIn
+returns c =
+    let told = c .before .before .before .before .step-on .ensures in
+    (told .3, λ p S x. rw (c .before .before .before .before .before .before .before .if1 .taken) (moved-right x _ told))
+
+step-on-requires-2 : tie.Need-step-on-requires-2
+step-on-requires-2 c κs =
+    let pre = c .before .before .before .before .before .before .before .pre in
+    let a = asks (pre .0 .2 .left) in
+    (a .0, a .1, pre .1)
+
+same-length-3 : tie.Need-same-length-3
+same-length-3 c = search needs
+
+same-length-4 : tie.Need-same-length-4
+same-length-4 c = search needs
+
+returns-2 : tie.Need-returns-2
+unfolding sideIn
+returns-2 c =
+    let told = c .before .before .before .before .step-on2 .ensures in
+    (told .3, λ p S x. rw (ne-eqb _ 2 (c .before .before .before .before .before .before .before .if1 .left)) (moved-left x _ told))
+
+pub move-side-spec : {M : Type 1} → statement M
+move-side-spec =
+    tie.close
+    (tie.spec
+    step-on-requires
+    same-length
+    same-length-2
+    returns
+    step-on-requires-2
+    same-length-3
+    same-length-4
+    returns-2)

@@ -1,0 +1,68 @@
+-- A derivation by its words: which steps are taken, and what is refused first. Document 01, "What comes out, by whose doing".
+use mathlib.Core.Path.{_≡_}
+use mathlib.Core.Logic.{_≢_}
+use mathlib.Core.List.{List, [], _∷_}
+use Prim.Native.Nat.{ℕ, _+_, _<_}
+use lib.ListN.{length, take, getD, replicate}
+use Rattle.term.specs.Trees.{Tree, words}
+use Rattle.types.specs.Sorts.{Sort, Context}
+use Rattle.declarations.specs.Declarations.{contextIn}
+use Rattle.typing.specs.Answers.{TypedTerm}
+use Rattle.rules.specs.Statements.{Taken, Outcome}
+use Rattle.rules.specs.Steps.{Move, Sides, sideNumber, chosen, put, Run}
+use Rattle.step.specs.declared.run.Answer as A
+use Rattle.step.specs.Answers.{held}
+use Rattle.lent.specs.Lent.{movesIn}
+use Rattle.lent.specs.Faults.{fault}
+use Rattle.lent.specs.Refusals.{InOrder, Refused, Begun}
+use Rattle.step.specs.Runs.{refusal}
+
+-- ---- the steps
+-- each is taken on its side, from the sides p to the sides q
+pub data AllTaken (Γ : Context) : Sides → List Move → Sides → Type 0 where
+  no-more : {p : Sides} → AllTaken Γ p [] p
+  one-more : {p q : Sides} {u : Tree} {m : Move} {ms : List Move} → Taken Γ (chosen (m .side) p) (m .step) u → AllTaken Γ (put (m .side) u p) ms q → AllTaken Γ p (m ∷ ms) q
+
+-- The first bad one stops the run, behind n good ones. 01: "step is from 1, at its place, side its side, the slices hold the terms before it". `Outcome` has the codes 20 to
+-- 23, with what each of them says of the step
+pub data Stopped (Γ : Context) : ℕ → Sides → List Move → Run → Type 0 where
+  bad : {n c : ℕ} {p : Sides} {t : Tree} {m : Move} {ms : List Move} → Outcome Γ (chosen (m .side) p) (m .step) c t → c ≢ 0
+      → Stopped Γ n p (m ∷ ms) (record { code = c; side = sideNumber (m .side); step = n + 1; at = m .step .place; sides = p })
+  later : {n : ℕ} {p : Sides} {u : Tree} {m : Move} {ms : List Move} {r : Run} → Taken Γ (chosen (m .side) p) (m .step) u
+      → Stopped Γ (n + 1) (put (m .side) u p) ms r → Stopped Γ n p (m ∷ ms) r
+
+-- ---- the answer
+-- 01, 30: "at the first offset where they differ"
+pub record Differ (xs ys : List ℕ) (k : ℕ) : Type 0 where
+  pub in-both : (k < length xs) × (k < length ys)
+  pub before : take k xs ≡ take k ys
+  pub there : getD xs k 0 ≢ getD ys k 0
+
+abbrev answer : ℕ → ℕ → ℕ → ℕ → Sides → A.Answer
+answer code side step at p = record { code = code; side = side; step = step; at = at; left = length (words (p .left)); right = length (words (p .right)) }
+
+abbrev zeros : List ℕ → List ℕ
+zeros ws = replicate (length ws) 0
+
+-- ---- what is lent
+module _ (ds left : List ℕ) (n : ℕ) (right : List ℕ) (m : ℕ) (steps : List ℕ) (count : ℕ) where
+  -- Demand 2: "both terms have one type by the published rules, each step is an instance of its rule at its place within the limits, and the ends agree"
+  pub record Accepted : Type 0 where
+    pub start : Sides
+    pub end : Sides
+    pub sort : Sort
+    pub left-term : TypedTerm ds left n (start .left) sort
+    pub right-term : TypedTerm ds right m (start .right) sort
+    pub order : InOrder steps count
+    pub taken : AllTaken (contextIn ds) start (movesIn steps count) end
+    pub same : end .left ≡ end .right
+
+  -- Every answer, with the two slices that it leaves
+  pub data Decision : A.Answer → List ℕ → List ℕ → Type 0 where
+    untouched : {s k : ℕ} → Refused ds left n right m steps count 1 s k → Decision (refusal (fault 1 s k)) left right
+    refused : {c s k : ℕ} → c ≢ 1 → Refused ds left n right m steps count c s k → Decision (refusal (fault c s k)) (zeros left) (zeros right)
+    stopped : {p : Sides} {S : Sort} {r : Run} → Begun ds left n right m steps count p S → Stopped (contextIn ds) 0 p (movesIn steps count) r
+        → Decision (answer (r .code) (r .side) (r .step) (r .at) (r .sides)) (held (r .sides .left)) (held (r .sides .right))
+    differ : {p q : Sides} {S : Sort} {k : ℕ} → Begun ds left n right m steps count p S → AllTaken (contextIn ds) p (movesIn steps count) q → Differ (words (q .left)) (words (q .right)) k
+        → Decision (answer 30 0 count k q) (held (q .left)) (held (q .right))
+    accepted : (a : Accepted) → Decision (answer 0 0 count 0 (a .end)) (held (a .end .left)) (held (a .end .right))

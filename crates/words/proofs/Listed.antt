@@ -1,0 +1,64 @@
+-- Lists and tests by number: an item is found by its number, and a test passes where it passes for each.
+use mathlib.Core.Path.{_≡_, refl, ap}
+use mathlib.Core.Bool.{Bool, true, false, _&&_, and-eq-true-iff, and-false}
+use mathlib.Core.List.{List, [], _∷_, _++_}
+use mathlib.Core.Option as O
+use Prim.Native.Nat.{ℕ, zero, suc, _+_, _≤_, _<_}
+use native.Mathlib.Omega.{arith}
+use lib.ListN.{length, drop, getElem?}
+use Rattle.words.specs.Listed.{upTo, allUpTo}
+
+-- ---- items
+module _ {A : Type 0} where
+  pub upTo-at : (n : ℕ) (f : ℕ → A) (a : ℕ) → a < n → getElem? (upTo n f) a ≡ O.some (f a)
+  unfolding upTo
+  upTo-at zero f a h = absurd (omega arith)
+  upTo-at (suc n) f zero h = refl
+  upTo-at (suc n) f (suc a) h = upTo-at n (λ k. f (suc k)) a (omega arith)
+
+  pub upTo-past : (n : ℕ) (f : ℕ → A) (a : ℕ) → n ≤ a → getElem? (upTo n f) a ≡ O.none
+  unfolding upTo
+  upTo-past zero f a h = refl
+  upTo-past (suc n) f zero h = absurd (omega arith)
+  upTo-past (suc n) f (suc a) h = upTo-past n (λ k. f (suc k)) a (omega arith)
+
+  pub length-upTo : (n : ℕ) (f : ℕ → A) → length (upTo n f) ≡ n
+  unfolding upTo
+  length-upTo zero f = refl
+  length-upTo (suc n) f = ap suc (length-upTo n λ k. f (suc k))
+
+  pub upTo-same : (n : ℕ) {f g : ℕ → A} → ((k : ℕ) → k < n → f k ≡ g k) → upTo n f ≡ upTo n g
+  unfolding upTo
+  upTo-same zero h = refl
+  upTo-same (suc n) h = let r = upTo-same n (λ k l. h (suc k) (omega arith)) in rw (h 0 (omega arith), r)
+
+  -- one item more
+  pub upTo-more : (n : ℕ) {f g : ℕ → A} {x : A} → ((k : ℕ) → k < n → f k ≡ g k) → f n ≡ x → upTo (suc n) f ≡ upTo n g ++ x ∷ []
+  unfolding upTo
+  upTo-more zero h e = rw e
+  upTo-more (suc n) h e = let r = upTo-more n (λ k l. h (suc k) (omega arith)) e in rw (h 0 (omega arith), r)
+
+  -- the items from the k-th on
+  pub drop-upTo : (n : ℕ) (f : ℕ → A) (k : ℕ) → k < n → drop k (upTo n f) ≡ f k ∷ drop (suc k) (upTo n f)
+  unfolding upTo
+  drop-upTo zero f k h = absurd (omega arith)
+  drop-upTo (suc n) f zero h = refl
+  drop-upTo (suc n) f (suc k) h = drop-upTo n (λ a. f (suc a)) k (omega arith)
+
+-- ---- tests
+pub allUpTo-at : (n : ℕ) (f : ℕ → Bool) → allUpTo n f ≡ true → (a : ℕ) → a < n → f a ≡ true
+unfolding allUpTo
+allUpTo-at zero f e a h = absurd (omega arith)
+allUpTo-at (suc n) f e zero h = and-eq-true-iff (f 0) _ .0 e .0
+allUpTo-at (suc n) f e (suc a) h = allUpTo-at n (λ k. f (suc k)) (and-eq-true-iff (f 0) _ .0 e .1) a (omega arith)
+
+pub allUpTo-all : (n : ℕ) (f : ℕ → Bool) → ((a : ℕ) → a < n → f a ≡ true) → allUpTo n f ≡ true
+unfolding allUpTo
+allUpTo-all zero f h = refl
+allUpTo-all (suc n) f h = rw (h 0 (omega arith)) (allUpTo-all n (λ k. f (suc k)) λ a l. h (suc a) (omega arith))
+
+pub allUpTo-fails : (n : ℕ) (f : ℕ → Bool) (a : ℕ) → a < n → f a ≡ false → allUpTo n f ≡ false
+unfolding allUpTo
+allUpTo-fails zero f a h e = absurd (omega arith)
+allUpTo-fails (suc n) f zero h e = rw e
+allUpTo-fails (suc n) f (suc a) h e = rw (allUpTo-fails n (λ k. f (suc k)) a (omega arith) e) (and-false (f 0))
