@@ -12,7 +12,7 @@ use lib.Dec.{ltb, leb, eqb}
 use lib.ListN.{length, take, drop, getD, getElem?, drop-of-length-le, length-append, length-drop}
 use lib.Seq.{drop-cons, take-length, length-take-le}
 use Rattle.words.specs.Listed.{upTo, allUpTo}
-use Rattle.words.proofs.Listed.{upTo-at, length-upTo, allUpTo-at}
+use Rattle.words.proofs.Listed.{upTo-some, length-upTo, allUpTo-at}
 use Rattle.term.specs.Heads.{Label, type-name, index-product, labelled, word, heads, reading, read}
 use Rattle.term.specs.Trees.{Tree, Forest, node, none, _▹_, count, words, words*, Formed, Formed*}
 use Rattle.term.specs.Parts.{parse, first, part, treeIn}
@@ -274,12 +274,6 @@ module _ (ds : List ℕ) (a : ℕ) where
   kind-3 e = rw e
 
 -- ---- good declarations make a well-formed context
-pub upTo-some : {A : Type 0} (n : ℕ) (f : ℕ → A) (a : ℕ) (x : A) → getElem? (upTo n f) a ≡ O.some x → (a < n) × (f a ≡ x)
-unfolding upTo
-upTo-some zero f a x e = absurd (let z : _≡_ {A = ℕ} 0 1 = cc in omega arith)
-upTo-some (suc n) f zero x e = (omega arith, cc)
-upTo-some (suc n) f (suc a) x e = let r = upTo-some n (λ k. f (suc k)) a x e in (omega arith, r .1)
-
 module _ (ds : List ℕ) where
   abbrev Γ : Context
   Γ = contextIn ds

@@ -10,6 +10,8 @@ use borrow.Author.Tests.{ltb-true, eqb-true, ne-eqb}
 use lib.Dec.{eqb, ltb}
 use lib.ListN.{length, take, drop, getD, length-append, length-drop}
 use lib.Seq.{drop-drop, drop-append-seam, drop-append-add, take-append-seam}
+use Rattle.words.specs.Listed.{allUpTo}
+use Rattle.words.proofs.Listed.{allUpTo-at}
 use Rattle.term.specs.Heads.{word}
 use Rattle.rules.specs.Patterns.{Pattern, #_, first, second, _⟨⟩, _⟨_⟩, _⟨_∣_⟩}
 use Rattle.rules.specs.Table.{Kind, Rule, _⇒_▷_, Line, _∶_, table, find, ruleOf}
@@ -32,17 +34,6 @@ pub line-past : (n : ℕ) → 171 ≤ n → lineOf (rowOf n) ≡ 0
 unfolding lineOf rowOf ruleOf rowFor below
 line-past n h = rw (find-past 171 table refl n h)
 
--- ---- the lines of all numbers
-unfoldable pub upTo : ℕ → (ℕ → ℕ) → List ℕ
-upTo zero f = []
-upTo (suc n) f = f 0 ∷ upTo n λ k. f (suc k)
-
-pub lines-at : (n : ℕ) (f : ℕ → ℕ) (k : ℕ) → k < n → getD (upTo n f) k 0 ≡ f k
-unfolding upTo
-lines-at zero f k h = absurd (omega arith)
-lines-at (suc n) f zero h = refl
-lines-at (suc n) f (suc k) h = lines-at n (λ j. f (suc j)) k (omega arith)
-
 -- ---- a row is told by its digits: a computed test of every number
 abbrev rowIn : ℕ → Row
 rowIn w = record { family = w / 68719476736 % 16; a = w / 16777216 % 4096; b = w / 65536 % 256; c = w / 256 % 256; d = w % 256 }
@@ -64,20 +55,10 @@ same-row r s e =
     let d = eqb-true _ _ (u .1) in
     λ i. record { family = f i; a = a i; b = b i; c = c i; d = d i }
 
-every : ℕ → (ℕ → Bool) → Bool
-every zero f = true
-every (suc n) f = f 0 && every n λ k. f (suc k)
-
-every-at : (n : ℕ) (f : ℕ → Bool) → every n f ≡ true → (k : ℕ) → k < n → f k ≡ true
-unfolding every
-every-at zero f e k h = absurd (omega arith)
-every-at (suc n) f e zero h = and-eq-true-iff (f 0) _ .0 e .0
-every-at (suc n) f e (suc k) h = every-at n (λ j. f (suc j)) (and-eq-true-iff (f 0) _ .0 e .1) k (omega arith)
-
 pub row-in : (n : ℕ) → rowIn (lineOf (rowOf n)) ≡ rowOf n
-unfolding every sameRow below lineOf rowOf ruleOf word
+unfolding allUpTo sameRow below lineOf rowOf ruleOf word
 row-in n = elim (decLt n 171) [
-  | yes h ↦ same-row _ _ (every-at 171 (λ k. sameRow (rowIn (lineOf (rowOf k))) (rowOf k)) refl n h)
+  | yes h ↦ same-row _ _ (allUpTo-at 171 (λ k. sameRow (rowIn (lineOf (rowOf k))) (rowOf k)) refl n h)
   | no h ↦ rw (find-past 171 table refl n (omega arith))
 ]
 

@@ -126,7 +126,7 @@ usable-picks child-i i n u e = e
 spreads-sound : {Γ : Context} {l s r m : Label} {w : Which} {i j : ℕ} {f : Forest} {q : Tree} {o : Opened} → nameless s ≡ true → Formed (node m f)
     → j ≡ 0 → usable w i ≡ true → l ≡ m → At f (place w i) o → spreadAt l s r o ≡ some q → Instance Γ (spreading l w s r) i j (node m f) q
 unfolding spreadAt
-spreads-sound g h z u e too-far x = no-answer x
+spreads-sound g h z u e (too-far l) x = no-answer x
 spreads-sound {l} {s} {r} {w} {i} g h z u e (there b (node c f) a k n) x =
     let t = cond-some (isHead s c (count f)) (some (node r (spread l b f a))) x in
     let y = head-is s c f g (child-formed _ b (node c f) a h k) (t .0) in
@@ -136,7 +136,7 @@ spreads-sound {l} {s} {r} {w} {i} g h z u e (there b (node c f) a k n) x =
 removes-sound : {Γ : Context} {l c m : Label} {i j : ℕ} {f : Forest} {q : Tree} {o : Opened} → nameless c ≡ true → Formed (node m f)
     → j ≡ 0 → l ≡ m → At f i o → removeAt l c o ≡ some q → Instance Γ (removing l c) i j (node m f) q
 unfolding removeAt
-removes-sound g h z e too-far x = no-answer x
+removes-sound g h z e (too-far l) x = no-answer x
 removes-sound {l} {c} g h z e (there b (node d f) a k n) x =
     let t = cond-some (isHead c d (count f) && ltb 0 (count (b ⧺ a))) (some (node l (b ⧺ a))) x in
     let s = both (isHead c d (count f)) (ltb 0 (count (b ⧺ a))) (t .0) in
@@ -152,7 +152,7 @@ zero-leaf (t ▹ f) h = let z : _≡_ {A = ℕ} 0 (suc (count f)) = cc (h .0, re
 absorbs-sound : {Γ : Context} {m : Label} {i j : ℕ} {f : Forest} {q : Tree} {o : Opened} → Formed (node m f)
     → j ≡ 0 → scalar-product ≡ m → At f i o → absorbAt o ≡ some q → Instance Γ absorbing i j (node m f) q
 unfolding absorbAt
-absorbs-sound h z e too-far x = no-answer x
+absorbs-sound h z e (too-far l) x = no-answer x
 absorbs-sound h z e (there b (node c f) a k n) x =
     let t = cond-some (isHead scalar-zero c (count f)) (some (node scalar-zero none)) x in
     let v = child-formed _ b (node c f) a h k in
@@ -161,7 +161,7 @@ absorbs-sound h z e (there b (node c f) a k n) x =
     instance-at n z (rw (k, ← e, ← y, l)) (cc (t .1)) (absorbs b a)
 
 -- merging and swapping
-either : {P : Type 0} (a b : Bool) → (a ≡ true → P) → (b ≡ true → P) → (a || b) ≡ true → P
+pub either : {P : Type 0} (a b : Bool) → (a ≡ true → P) → (b ≡ true → P) → (a || b) ≡ true → P
 either true b x y e = x refl
 either false b x y e = y e
 
@@ -172,7 +172,7 @@ chain-of m f h =
     (either (isHead scalar-product m (count f)) _ (λ t. rw (← (head-is scalar-product m f refl h t)) scalar-products)
     (λ t. rw (← (head-is add m f refl h t)) sums))
 
-chain-nameless : {m : Label} → Chain m → nameless m ≡ true
+pub chain-nameless : {m : Label} → Chain m → nameless m ≡ true
 chain-nameless scalar-sums = refl
 chain-nameless scalar-products = refl
 chain-nameless sums = refl
@@ -180,7 +180,7 @@ chain-nameless sums = refl
 merges-sound : {Γ : Context} {m : Label} {i j : ℕ} {f : Forest} {q : Tree} {o : Opened} → Formed (node m f)
     → j ≡ 0 → Chain m → At f i o → mergeAt m o ≡ some q → Instance Γ merging i j (node m f) q
 unfolding mergeAt
-merges-sound h z c too-far x = no-answer x
+merges-sound h z c (too-far l) x = no-answer x
 merges-sound {m} h z c (there b (node d f) a k n) x =
     let t = cond-some (isHead m d (count f)) (some (node m (b ⧺ f ⧺ a))) x in
     let y = head-is m d f (chain-nameless c) (child-formed _ b (node d f) a h k) (t .0) in
@@ -189,7 +189,7 @@ merges-sound {m} h z c (there b (node d f) a k n) x =
 swaps-sound : {Γ : Context} {m : Label} {i j : ℕ} {f : Forest} {q : Tree} {o : Opened}
     → j ≡ 0 → Chain m → At f i o → swapAt m o ≡ some q → Instance Γ swapping i j (node m f) q
 unfolding swapAt
-swaps-sound z c too-far x = no-answer x
+swaps-sound z c (too-far l) x = no-answer x
 swaps-sound z c (there b t none k n) x = no-answer x
 swaps-sound z c (there b t (u ▹ a) k n) x = instance-at n z (rw k) (cc x) (swaps b a t u c)
 
@@ -224,7 +224,7 @@ collected-sound b c a (summed-as d x k h) (summed-as d′ x′ k′ h′) e =
 before-sound : {Γ : Context} {u v : Summand} {m : Label} {f b : Forest} {q : Tree} {i j : ℕ} {o : Opened} (t : Tree) (a : Forest) → Formed (node m f)
     → add ≡ m → f ≡ b ⧺ t ▹ a → j ≡ count b → At b i o → collectBefore u v t a o ≡ some q → Instance Γ (collecting u v) i j (node m f) q
 unfolding collectBefore _⧺_ count
-before-sound t a h z k n too-far e = no-answer e
+before-sound t a h z k n (too-far l) e = no-answer e
 before-sound {u} {v} {m} {f} {b} {j} t a h z k n (there d s c l w) e =
     let x : f ≡ d ⧺ s ▹ c ⧺ t ▹ a = k ∙ ap (λ (g : Forest). g ⧺ t ▹ a) l ∙ ⧺-assoc d (s ▹ c) (t ▹ a) in
     let y : j ≡ count d + 1 + count c = omega (arith, n, ap count l, count-⧺ d (s ▹ c)) in
@@ -235,7 +235,7 @@ before-sound {u} {v} {m} {f} {b} {j} t a h z k n (there d s c l w) e =
 collects-sound : {Γ : Context} {u v : Summand} {m : Label} {i j : ℕ} {f : Forest} {q : Tree} {o : Opened} → Formed (node m f) → add ≡ m
     → At f j o → collectAt u v i o ≡ some q → Instance Γ (collecting u v) i j (node m f) q
 unfolding collectAt
-collects-sound h z too-far e = no-answer e
+collects-sound h z (too-far l) e = no-answer e
 collects-sound {i} h z (there b t a k n) e = before-sound t a h z k n (at b i) e
 
 pub sound : {Γ : Context} {i j : ℕ} {q : Tree} (r : Rule) (p : Tree) → Good r → Formed p → rewrite Γ r i j p ≡ some q → Instance Γ r i j p q

@@ -14,7 +14,7 @@ pub mod AllTypes
 pub mod AllMeanings
 pub mod Known
 pub mod Good
-mod Opening
+pub mod Opening
 pub mod Matching
 pub mod Decided
 pub mod Formed

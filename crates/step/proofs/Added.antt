@@ -1,10 +1,9 @@
 -- Runs of a part's words, written one behind the other.
 use mathlib.Core.Path.{_≡_, refl, sym}
 use mathlib.Core.List.{List, [], append-nil}
-use Prim.Native.Nat.{ℕ, _+_, _-_, _≤_}
+use Prim.Native.Nat.{ℕ, _+_, _≤_}
 use native.Mathlib.Omega.{arith}
-use lib.ListN.{length, take, drop, length-drop}
-use lib.Seq.{take-all}
+use lib.ListN.{length, take}
 use Rattle.words.specs.Words.{Added}
 
 -- the empty run; `at` is an end that `append` answers, so it is at most one past the slice's
@@ -16,7 +15,3 @@ none-added out at h =
 -- a run that is known by another name
 pub added-as : {out : List ℕ} {at : ℕ} {xs ys out′ : List ℕ} {e : ℕ} → xs ≡ ys → Added out at xs out′ e → Added out at ys out′ e
 added-as h a = rw h at a
-
--- the run up to the very end is all that is left
-pub to-end : (ws : List ℕ) (from : ℕ) → take (length ws - from) (drop from ws) ≡ drop from ws
-to-end ws from = take-all (length ws - from) (drop from ws) (omega (arith, length-drop from ws))

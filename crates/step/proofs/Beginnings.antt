@@ -19,7 +19,7 @@ use Rattle.declarations.specs.Declarations.{basisIn, variableIn, contextIn, goo
 use Rattle.declarations.proofs.Entries.{kind}
 use Rattle.step.specs.Code.Children.{kids, headWord}
 use Rattle.step.specs.Code.Shapes.{kindOf, Side, Begins, Sided, shapeOf, kindIn, wayIn, childFrom, exchanged}
-use Rattle.step.proofs.Added.{to-end}
+use Rattle.words.proofs.Runs.{to-end}
 use Rattle.step.proofs.Declared.{kind-declared}
 use Rattle.step.proofs.Sides.{Child, the-first, the-second, Both, both, other, Inner, Told, told-inner, InnerKind, ToldKind, kind-is, kind-inner, told, told-kind}
 

@@ -18,7 +18,7 @@ use Rattle.rules.proofs.Known.{is-head}
 use Rattle.step.specs.Code.Children.{kids}
 use Rattle.rulebook.specs.Rows.{summandNumber}
 use Rattle.step.specs.Code.Families.{Counted}
-use Rattle.step.proofs.Opened.{Opens, too-far, there, opens, open-past}
+use Rattle.rules.proofs.Opening.{At, too-far, there, at, open-past}
 use Rattle.step.proofs.Split.{root}
 use Rattle.step.proofs.Tested.{cond-same, named, root-other, root-outside, parent-is}
 use Rattle.step.proofs.Pairs.{Pair, pair-bounds}
@@ -31,7 +31,7 @@ unfolding word
 sum = record { number = refl; chain = sums }
 
 -- ---- the part is no sum, or has no child i before its child j
-order-by : {f : Forest} {i j : ℕ} {o : Opened} (u v : Summand) → Opens f j o → j ≤ i → collectAt u v i o ≡ refused
+order-by : {f : Forest} {i j : ℕ} {o : Opened} (u v : Summand) → At f j o → j ≤ i → collectAt u v i o ≡ refused
 unfolding collectAt collectBefore
 order-by u v (too-far h) l = refl
 order-by {i} u v (there b t a e n) l = rw (open-past b i (omega arith))
@@ -43,7 +43,7 @@ module _ (Γ : Context) (u v : Summand) (i j : ℕ) {ws : List ℕ} (w : Whole w
 
   pub collects-order : j ≤ i → rewrite Γ (collecting u v) i j (treeIn (parse ws)) ≡ refused
   unfolding rewrite
-  collects-order l = let r = root w in rw (r .tree, order-by u v (opens (r .children) j) l, cond-same)
+  collects-order l = let r = root w in rw (r .tree, order-by u v (at (r .children) j) l, cond-same)
 
   pub collects-outside : open-at (kids (treeIn (parse ws))) j ≡ outside → rewrite Γ (collecting u v) i j (treeIn (parse ws)) ≡ refused
   unfolding rewrite collectAt

@@ -26,7 +26,8 @@ use Rattle.step.specs.declared.writing.Rewritten.{Rewritten}
 use Rattle.step.specs.Code.Families.{chainWord, Does, Removes, Absorbs, Merges, Swaps, Spreads, Collects}
 use Rattle.step.specs.Code.Site.{Site, Equation, Fixed, Lined, an-equation, a-spreading, a-removing, an-absorbing, a-merging, a-collecting, a-swapping}
 use Rattle.step.specs.Code.Writing.{Writes}
-use Rattle.step.proofs.Heads.{same-head, either}
+use Rattle.rules.proofs.Decided.{either}
+use Rattle.step.proofs.Heads.{same-head}
 use Rattle.step.proofs.Sited.{site-words}
 use Rattle.step.proofs.Written.{refuses}
 

@@ -12,6 +12,7 @@ use lib.ListN.{length, take, drop, length-append, length-map}
 use Rattle.term.specs.Heads.{read, word}
 use Rattle.term.specs.Terms.{maxChildren}
 use Rattle.term.specs.Trees.{Tree, Forest, node, none as no-tree, _▹_, count, words, words*, Formed}
+use Rattle.term.proofs.Scan.{count-words}
 use Rattle.types.specs.Sorts.{Sort, index, basis, scalar, ket, bra, operator, Context}
 use Rattle.types.specs.Rules.{_⊢_∶_, WellFormed}
 use Rattle.types.specs.TypeOf.{typeOf}
@@ -124,16 +125,11 @@ module _ (n : ℕ) {k : Kind} {l r : Pattern} (rule : ruleOf n ≡ some (k ⇒ l
   kind-asks m x h = rw (x .many) (asks-hole k (met l 0) (sides .1 .1) h)
 
 -- ---- a filled right side has few children at each node
-count-short : (f : Forest) → count f ≤ length (words* f)
-unfolding count words
-count-short no-tree = omega arith
-count-short (node l cs ▹ f) = omega (arith, length-append (words (node l cs)) (words* f), count-short f)
-
 mutual
   unfolding words count few
 
   few-short : (t : Tree) → length (words t) ≤ 255 → few t ≡ true
-  few-short (node l cs) h = rw (le-leb (count cs) maxChildren (omega (arith, count-short cs))) (few-short* cs (omega arith))
+  few-short (node l cs) h = rw (le-leb (count cs) maxChildren (omega (arith, count-words cs))) (few-short* cs (omega arith))
 
   few-short* : (f : Forest) → length (words* f) ≤ 255 → few* f ≡ true
   few-short* no-tree h = refl

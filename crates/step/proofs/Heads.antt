@@ -13,6 +13,7 @@ use Rattle.term.proofs.Readings.{read-few}
 use Rattle.rules.specs.Instances.{Chain, scalar-sums, scalar-products, sums}
 use Rattle.rules.specs.Rewrite.{isHead, isChain}
 use Rattle.rules.proofs.Known.{nameless, is-head, head-is}
+use Rattle.rules.proofs.Decided.{either}
 use Rattle.rulebook.specs.Rows.{headOf}
 use Rattle.step.specs.Code.Families.{chainWord}
 
@@ -121,18 +122,9 @@ pub other-head : (l m : Label) (f : Forest) → nameless l ≡ true → Formed (
 other-head l m f p h n = sym (head-test l m f p h) ∙ ne-eqb _ _ n
 
 -- ---- and of a chain
-pub chain-nameless : {l : Label} → Chain l → nameless l ≡ true
-chain-nameless scalar-sums = refl
-chain-nameless scalar-products = refl
-chain-nameless sums = refl
-
 pub chain-test : (m : Label) (f : Forest) → Formed (node m f) → chainWord (word m (count f)) ≡ isChain m (count f)
 unfolding isChain word
 chain-test m f h = rw (head-test scalar-sum m f refl h, head-test scalar-product m f refl h, head-test add m f refl h)
-
-pub either : {P : Type 0} (a b : Bool) → (a ≡ true → P) → (b ≡ true → P) → (a || b) ≡ true → P
-either true b x y e = x refl
-either false b x y e = y e
 
 pub chain-of : (m : Label) (f : Forest) → Formed (node m f) → chainWord (word m (count f)) ≡ true → Chain m
 unfolding word

@@ -1,6 +1,5 @@
 -- The laws of stepping.
 mod Added
-mod Opened
 mod Split
 mod Walk
 mod Heads

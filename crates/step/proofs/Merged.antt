@@ -20,7 +20,8 @@ use Rattle.rules.proofs.Formed.{formed-few*}
 use Rattle.step.specs.Code.Children.{kids}
 use Rattle.step.specs.Code.Families.{chainWord, Named}
 use Rattle.step.proofs.Split.{root, Split, before-run, inside-child, before-formed, child-formed, after-formed}
-use Rattle.step.proofs.Heads.{chain-nameless, chain-word}
+use Rattle.rules.proofs.Decided.{chain-nameless}
+use Rattle.step.proofs.Heads.{chain-word}
 use Rattle.step.proofs.Tested.{cond-same, root-chain, root-outside, parent-chain, parent-is-chain, child-is, child-other, chain-parent, chain-child, siblings-few}
 use Rattle.step.proofs.Few.{few*-⧺, formed-count, few-node, many-node}
 

@@ -1,34 +1,13 @@
 -- A result put into its slice, with zeros behind.
-use mathlib.Core.Path.{_≡_, refl, sym, _∙_, ap}
+use mathlib.Core.Path.{_≡_, sym, _∙_, ap}
 use mathlib.Core.List.{List, _++_, append-assoc}
-use Prim.Native.Nat.{ℕ, zero, suc, _+_, _-_, _≤_, min}
+use Prim.Native.Nat.{ℕ, _+_, _-_, _≤_, min}
 use native.Mathlib.Decide.{decLe}
 use native.Mathlib.Omega.{arith}
 use lib.ListN.{length, take, drop, replicate, length-append, length-take, length-drop, take-append-drop, replicate-append-replicate}
 use lib.Seq.{take-at, take-take, length-take-le, drop-drop, drop-append-add}
 use Rattle.words.specs.Words.{cleared, laid}
-use Rattle.words.proofs.Runs.{laid-in, cleared-end, length-cleared}
-
--- ---- zeros behind an offset
-drop-zeros : (k n : ℕ) → drop {A = ℕ} k (replicate n 0) ≡ replicate (n - k) 0
-drop-zeros zero n = let z : n - 0 ≡ n = omega arith in rw z
-drop-zeros (suc k) zero = let z : 0 - suc k ≡ 0 = omega arith in rw z
-drop-zeros (suc k) (suc n) = let z : suc n - suc k ≡ n - k = omega arith in rw z (drop-zeros k n)
-
-zeros-from : (ws : List ℕ) (old k : ℕ) → cleared ws old ≡ ws → old ≤ k → k ≤ length ws → drop k ws ≡ replicate (length ws - k) 0
-unfolding cleared
-zeros-from ws old k e h l =
-    let f : length (take old ws) ≡ old = length-take-le old ws (omega arith) in
-    let n : k ≡ length (take old ws) + (k - old) = omega arith in
-    let z : length ws - old - (k - old) ≡ length ws - k = omega arith in
-    ap (drop k) (sym e) ∙ ap (λ (m : ℕ). drop m (take old ws ++ replicate (length ws - old) 0)) n
-    ∙ drop-append-add (take old ws) (replicate (length ws - old) 0) (k - old) ∙ drop-zeros (k - old) (length ws - old) ∙ ap (λ (m : ℕ). replicate m 0) z
-
-pub cleared-twice : (ws : List ℕ) (n : ℕ) → n ≤ length ws → cleared (cleared ws n) n ≡ cleared ws n
-unfolding cleared
-cleared-twice ws n h =
-    let l : length (take n ws ++ replicate (length ws - n) 0) ≡ length ws = length-cleared ws n in
-    rw (l, take-at (take n ws) (replicate (length ws - n) 0) n (length-take-le n ws h))
+use Rattle.words.proofs.Runs.{laid-in, cleared-end, zeros-from}
 
 -- ---- a run laid into a slice that has zeros behind its first `old` words, which are then cleared behind the run
 module _ (ws : List ℕ) (at : ℕ) (src : List ℕ) (old : ℕ) (room : at + length src ≤ length ws) (inside : old ≤ length ws) (zeros : cleared ws old ≡ ws) where

@@ -3,7 +3,7 @@ use mathlib.Core.Path.{_≡_, refl, sym, _∙_, ap}
 use mathlib.Core.Logic.{_≢_}
 use mathlib.Core.Bool.{Bool, true, false, cond}
 use mathlib.Core.List.{List, [], _∷_, _++_, append-nil}
-use Prim.Native.Nat.{ℕ, zero, suc, _+_, _-_}
+use Prim.Native.Nat.{ℕ, _+_, _-_}
 use native.Mathlib.Nat.{zero-add}
 use native.Mathlib.Omega.{arith}
 use borrow.Author.Tests.{ne-eqb, eqb-true, eqb-false}
@@ -16,7 +16,7 @@ use Rattle.algebra.proofs.Gaussian.{gaussian}
 use Rattle.words.specs.Words.{cleared, sameWords, agreeing}
 use Rattle.words.proofs.Runs.{same-words, same-words-eq, agreeing-take, agreeing-differ}
 use Rattle.words.specs.Listed.{upTo}
-use Rattle.words.proofs.Listed.{length-upTo}
+use Rattle.words.proofs.Listed.{length-upTo, upTo-split}
 use Rattle.term.specs.Parts.{parse, treeIn}
 use Rattle.term.specs.Trees.{Tree, words, Formed}
 use Rattle.term.proofs.Parsing.{parse-tree, prefix-free}
@@ -243,12 +243,6 @@ pub decides : Decides
 decides ds left n right m steps count = view-by ds left n right m steps count (judges ds left n right m steps count) refl
 
 -- ---- pieces
-module _ {A : Type 0} where
-  upTo-split : (n m : ℕ) (f : ℕ → A) → upTo (n + m) f ≡ upTo n f ++ drop n (upTo (n + m) f)
-  unfolding upTo
-  upTo-split zero m f = refl
-  upTo-split (suc n) m f = let z : suc n + m ≡ suc (n + m) = omega arith in rw z (ap (λ (l : List A). f 0 ∷ l) (upTo-split n m (λ k. f (suc k))))
-
 pub pieces : Pieces
 unfolding runFrom movesIn
 pieces Γ p steps k m a =

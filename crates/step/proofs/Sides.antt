@@ -9,13 +9,14 @@ use native.Mathlib.Omega.{arith}
 use lib.Arith.{digits-div, digits-mod}
 use lib.Dec.{eqb}
 use lib.ListN.{getD, getElem?}
+use Rattle.words.proofs.Listed.{upTo-some}
 use Rattle.term.specs.Heads.{Label, word}
 use Rattle.term.specs.Trees.{Tree, Forest, node, none, _▹_, count}
 use Rattle.types.specs.Sorts.{Sort, _⊠_}
 use Rattle.types.specs.Rules.{_⊢_∶_, type-var, basis-var, term-var, sca-0, sca-1, sca-delta, sca-add, sca-mul, sca-conj, sca-dot, base-prod, pair-base, ket-0, ket-base, ket-adj, ket-scr, ket-add, ket-mulk, ket-tsr, bra-0, bra-base, bra-adj, bra-scr, bra-add, bra-mulb, bra-tsr, opt-0, opt-1, opt-adj, opt-scr, opt-add, opt-outer, opt-mulo, opt-tsr}
 use Rattle.types.proofs.Proper.{index-is}
 use Rattle.declarations.specs.Declarations.{basisIn, variableIn, contextIn, goodDeclarations}
-use Rattle.declarations.proofs.Entries.{upTo-some, declarations, well-formed}
+use Rattle.declarations.proofs.Entries.{declarations, well-formed}
 use Rattle.step.specs.Code.Shapes.{kindOf, Side, of-index, of-basis, of-ket, of-bra, of-rows, of-columns, Sided, shapeOf, kindIn, wayIn, exchanged}
 
 -- the child that the index or the kind is read off: the first or the second

@@ -13,7 +13,7 @@ use Rattle.term.proofs.Parsing.{count-⧺, words*-⧺, Formed*-⧺, parse-tree,
 use Rattle.rules.specs.Rewrite.{Opened, outside, opened, open-at}
 use Rattle.step.specs.declared.children.Child.{Child}
 use Rattle.step.specs.Code.Children.{kids, childOf}
-use Rattle.step.proofs.Opened.{Opens, too-far, there, opens}
+use Rattle.rules.proofs.Opening.{At, too-far, there, at}
 
 -- ---- a whole part is the words of one formed tree
 pub record Root (ws : List ℕ) : Type 0 where
@@ -50,15 +50,15 @@ pub record Split (ws : List ℕ) (i start end : ℕ) : Type 0 where
   pub ends : end ≡ start + length (words (node label below))
 
 -- what `child_at` answers: there is no such child, or the part is split at it
-outside-by : {f : Forest} {i : ℕ} {o : Opened} → Opens f i o → childOf o .there ≡ false → o ≡ outside
+outside-by : {f : Forest} {i : ℕ} {o : Opened} → At f i o → childOf o .there ≡ false → o ≡ outside
 unfolding childOf
 outside-by (too-far h) e = refl
 outside-by (there b t a k n) e = absurd (let z : _≡_ {A = ℕ} 0 1 = cc in omega arith)
 
 pub no-child : {r : Child} (f : Forest) (i : ℕ) → r ≡ childOf (open-at f i) → r .there ≡ false → open-at f i ≡ outside
-no-child f i e h = outside-by (opens f i) (cc)
+no-child f i e h = outside-by (at f i) (cc)
 
-split-by : {ws : List ℕ} {i : ℕ} {o : Opened} {c : Child} (r : Root ws) → Opens (r .children) i o → open-at (r .children) i ≡ o → c ≡ childOf o → c .there ≡ true → Split ws i (c .start) (c .end)
+split-by : {ws : List ℕ} {i : ℕ} {o : Opened} {c : Child} (r : Root ws) → At (r .children) i o → open-at (r .children) i ≡ o → c ≡ childOf o → c .there ≡ true → Split ws i (c .start) (c .end)
 unfolding childOf words
 split-by r (too-far h) q e t = absurd (let z : _≡_ {A = ℕ} 0 1 = cc in omega arith)
 split-by {c} r (there b (node l f) a k n) q e t =
@@ -82,7 +82,7 @@ unfolding kids
 split {ws} {i} {c} w e t =
     let r = root w in
     let e′ : c ≡ childOf (open-at (r .children) i) = rw (r .tree) at e in
-    split-by r (opens (r .children) i) refl e′ t
+    split-by r (at (r .children) i) refl e′ t
 
 -- ---- a row of trees without words is empty
 pub no-words : (f : Forest) → length (words* f) ≡ 0 → f ≡ none

@@ -18,7 +18,8 @@ use Rattle.rulebook.specs.Rows.{headOf}
 use Rattle.step.specs.Code.Families.{chainWord, Named, Counted}
 use Rattle.step.proofs.Split.{Root, root, first-word, Split, parent-word, child-word, child-formed}
 use Rattle.step.proofs.Few.{formed-count}
-use Rattle.step.proofs.Heads.{same-head, other-head, chain-test, chain-of, chain-word, chain-nameless}
+use Rattle.rules.proofs.Decided.{chain-nameless}
+use Rattle.step.proofs.Heads.{same-head, other-head, chain-test, chain-of, chain-word}
 
 -- a test that makes no difference
 pub cond-same : {A : Type 0} {x : A} (b : Bool) → cond b x x ≡ x

@@ -16,7 +16,7 @@ use Rattle.term.proofs.Extents.{parse-behind}
 use Rattle.rules.specs.Rewrite.{Opened, outside, opened, behind, open-at}
 use Rattle.step.specs.declared.children.Child.{Child}
 use Rattle.step.specs.Code.Children.{kids, childOf}
-use Rattle.step.proofs.Opened.{open-past}
+use Rattle.rules.proofs.Opening.{open-past}
 use Rattle.step.proofs.Split.{Root, root, first-word}
 
 -- a child of a row that begins at an offset

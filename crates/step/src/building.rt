@@ -82,7 +82,7 @@ pub fn build_side(
     out: &mut [u16],
     at: usize,
 ) -> usize
-    requires { ⌜ ((c : List Tree) × Caught (now ds) (now term) place found c) × (from + n ≤ 801) × (at ≤ length (now out) + 1) × (allAsk (found .held) (take n (drop from allWords)) ≡ true) ⌝ }
+    requires { ⌜ ((c : List Tree) × Caught (now ds) (now term) place found c) × (from + n ≤ length allWords) × (at ≤ length (now out) + 1) × (allAsk (found .held) (take n (drop from allWords)) ≡ true) ⌝ }
     ensures { λ r. ⌜ ((c : List Tree) → Caught (now (ds .entry)) (now (term .entry)) place found c → Added (now (out .entry)) at (pieces (contextIn (now (ds .entry))) c (take n (drop from allWords))) (now (out .exit)) r) ⌝ }
 {
     let mut done = at;

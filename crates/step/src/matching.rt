@@ -124,7 +124,7 @@ fn match_word(ws: &[u16], m: Match, word: u16) -> Match
 
 // The `n` words of a left side that begin at `from` in the table.
 pub fn match_side(ws: &[u16], from: usize, n: usize) -> Match
-    requires { ⌜ from + n ≤ 801 ⌝ }
+    requires { ⌜ from + n ≤ length allWords ⌝ }
     ensures { λ r. ⌜ Matched (take n (drop from allWords)) (now (ws .entry)) r ⌝ }
 {
     let mut m = begun();

@@ -63,7 +63,7 @@ chop-add none b m = let z : 0 + m ≡ m = omega arith in rw z (prepend-none (cho
 chop-add (t ▹ a) b m = let z : suc (count a) + m ≡ suc (count a + m) = omega arith in rw z (rw (chop-add a b m) (prepend-more t a (chop m b)))
 
 -- a tree has at least one word, so a row has no more trees than words
-count-words : (f : Forest) → count f ≤ length (words* f)
+pub count-words : (f : Forest) → count f ≤ length (words* f)
 unfolding count words
 count-words none = omega arith
 count-words (node l cs ▹ f) = simp length-append (omega (arith, count-words f))

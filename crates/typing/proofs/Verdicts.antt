@@ -7,7 +7,7 @@ use Prim.Native.Nat.{ℕ, zero, suc, _+_, _-_, _/_, _≤_, _<_}
 use native.Mathlib.Nat.{lt-of-not-le}
 use native.Mathlib.Omega.{arith}
 use lib.ListN.{length, take, drop, getD, length-drop, drop-of-length-le}
-use lib.Seq.{take-all}
+use Rattle.words.proofs.Runs.{to-end}
 use Rattle.term.specs.Heads.{Label, labelled, read, arityOf}
 use Rattle.term.specs.declared.heads.Arity.the-variants.{Unknown, Children}
 use Rattle.term.specs.Trees.{Tree, Forest, node, none, _▹_, count, _⧺_, words, words*, depth, depth*}
@@ -117,7 +117,7 @@ module _ {ws : List ℕ} {kids others passed : Forest} {next : ℕ} (c : Next ws
   next-inside = lt-of-not-le (nothing-past ws next (c .tree) (c .later ⧺ others) (c .there))
 
   pub rest-is : take (length ws - next) (drop next ws) ≡ drop next ws
-  rest-is = let l = length-drop next ws in take-all (length ws - next) (drop next ws) (omega arith)
+  rest-is = to-end ws next
 
   pub child-part : (v : List ℕ) → v ≡ drop next ws → length (part v 0) ≡ length (words (c .tree))
   unfolding part first

@@ -5,7 +5,7 @@ use mathlib.Core.List.{List, [], _∷_, _++_}
 use mathlib.Core.Option as O
 use Prim.Native.Nat.{ℕ, zero, suc, _+_, _≤_, _<_}
 use native.Mathlib.Omega.{arith}
-use lib.ListN.{length, drop, getElem?}
+use lib.ListN.{length, drop, getD, getElem?}
 use Rattle.words.specs.Listed.{upTo, allUpTo}
 
 -- ---- items
@@ -22,6 +22,18 @@ module _ {A : Type 0} where
   upTo-past (suc n) f zero h = absurd (omega arith)
   upTo-past (suc n) f (suc a) h = upTo-past n (λ k. f (suc k)) a (omega arith)
 
+  pub upTo-read : (n : ℕ) (f : ℕ → A) (d : A) (a : ℕ) → a < n → getD (upTo n f) a d ≡ f a
+  unfolding upTo
+  upTo-read zero f d a h = absurd (omega arith)
+  upTo-read (suc n) f d zero h = refl
+  upTo-read (suc n) f d (suc a) h = upTo-read n (λ k. f (suc k)) d a (omega arith)
+
+  pub upTo-some : (n : ℕ) (f : ℕ → A) (a : ℕ) (x : A) → getElem? (upTo n f) a ≡ O.some x → (a < n) × (f a ≡ x)
+  unfolding upTo
+  upTo-some zero f a x e = absurd (let z : _≡_ {A = ℕ} 0 1 = cc in omega arith)
+  upTo-some (suc n) f zero x e = (omega arith, cc)
+  upTo-some (suc n) f (suc a) x e = let r = upTo-some n (λ k. f (suc k)) a x e in (omega arith, r .1)
+
   pub length-upTo : (n : ℕ) (f : ℕ → A) → length (upTo n f) ≡ n
   unfolding upTo
   length-upTo zero f = refl
@@ -37,6 +49,11 @@ module _ {A : Type 0} where
   unfolding upTo
   upTo-more zero h e = rw e
   upTo-more (suc n) h e = let r = upTo-more n (λ k l. h (suc k) (omega arith)) e in rw (h 0 (omega arith), r)
+
+  pub upTo-split : (n m : ℕ) (f : ℕ → A) → upTo (n + m) f ≡ upTo n f ++ drop n (upTo (n + m) f)
+  unfolding upTo
+  upTo-split zero m f = refl
+  upTo-split (suc n) m f = let z : suc n + m ≡ suc (n + m) = omega arith in rw z (ap (λ (l : List A). f 0 ∷ l) (upTo-split n m (λ k. f (suc k))))
 
   -- the items from the k-th on
   pub drop-upTo : (n : ℕ) (f : ℕ → A) (k : ℕ) → k < n → drop k (upTo n f) ≡ f k ∷ drop (suc k) (upTo n f)

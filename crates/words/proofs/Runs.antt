@@ -9,8 +9,8 @@ use native.Mathlib.Numerals.{add-one}
 use native.Mathlib.Decide.{decLe}
 use native.Mathlib.Omega.{arith}
 use lib.Dec.{eqb, eqb·suc-suc, eqb·zero-suc}
-use lib.ListN.{length, take, drop, getD, set, length-append, length-take, length-drop, length-set, length-replicate, drop-of-length-le}
-use lib.Seq.{take-all, take-at, take-suc-set, drop-nil, drop-drop, paste-suc}
+use lib.ListN.{length, take, drop, replicate, getD, set, length-append, length-take, length-drop, length-set, length-replicate, drop-of-length-le}
+use lib.Seq.{take-all, take-at, take-suc-set, length-take-le, drop-nil, drop-drop, drop-append-add, paste-suc}
 use borrow.Author.Tests.{eqb-true, eqb-false, eq-eqb, ne-eqb, le-leb, lt-leb}
 use Rattle.words.specs.Words.{cleared, overlaid, agreeing, sameWords, laid, Added}
 
@@ -31,7 +31,32 @@ cleared-more ws i h =
     let n : length ws - i ≡ suc (length ws - suc i) = omega arith in
     rw (add-one, length-set, n, take-suc-set ws i 0, append-assoc)
 
+-- a run that is cleared from an offset on has zeros from any later one on
+drop-zeros : (k n : ℕ) → drop {A = ℕ} k (replicate n 0) ≡ replicate (n - k) 0
+drop-zeros zero n = let z : n - 0 ≡ n = omega arith in rw z
+drop-zeros (suc k) zero = let z : 0 - suc k ≡ 0 = omega arith in rw z
+drop-zeros (suc k) (suc n) = let z : suc n - suc k ≡ n - k = omega arith in rw z (drop-zeros k n)
+
+pub zeros-from : (ws : List ℕ) (old k : ℕ) → cleared ws old ≡ ws → old ≤ k → k ≤ length ws → drop k ws ≡ replicate (length ws - k) 0
+unfolding cleared
+zeros-from ws old k e h l =
+    let f : length (take old ws) ≡ old = length-take-le old ws (omega arith) in
+    let n : k ≡ length (take old ws) + (k - old) = omega arith in
+    let z : length ws - old - (k - old) ≡ length ws - k = omega arith in
+    ap (drop k) (sym e) ∙ ap (λ (m : ℕ). drop m (take old ws ++ replicate (length ws - old) 0)) n
+    ∙ drop-append-add (take old ws) (replicate (length ws - old) 0) (k - old) ∙ drop-zeros (k - old) (length ws - old) ∙ ap (λ (m : ℕ). replicate m 0) z
+
+pub cleared-twice : (ws : List ℕ) (n : ℕ) → n ≤ length ws → cleared (cleared ws n) n ≡ cleared ws n
+unfolding cleared
+cleared-twice ws n h =
+    let l : length (take n ws ++ replicate (length ws - n) 0) ≡ length ws = length-cleared ws n in
+    rw (l, take-at (take n ws) (replicate (length ws - n) 0) n (length-take-le n ws h))
+
 -- ---- copying
+-- the run up to the very end is all that is left
+pub to-end : (ws : List ℕ) (from : ℕ) → take (length ws - from) (drop from ws) ≡ drop from ws
+to-end ws from = take-all (length ws - from) (drop from ws) (omega (arith, length-drop from ws))
+
 pub length-overlaid : (dst src : List ℕ) → length (overlaid dst src) ≡ length dst
 unfolding overlaid
 length-overlaid dst src = simp (length-append, length-take, length-drop) (omega arith)

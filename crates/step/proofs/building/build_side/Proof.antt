@@ -31,7 +31,7 @@ unfolding pieces
 loop-holds c = (omega arith, refl, λ d h. none-added _ _ (c .before .before .before .pre .2))
 
 add-word-at : tie.Need-add-word-at Inv-loop μ-loop
-add-word-at c = search needs
+add-word-at c = let m = many in search needs
 
 word-at-requires : tie.Need-word-at-requires Inv-loop μ-loop
 word-at-requires c κs = search needs
@@ -40,7 +40,7 @@ build-word-requires : tie.Need-build-word-requires Inv-loop μ-loop
 build-word-requires c κs =
     let start = c .before .before .before .before .before .before .before in
     let args = start .args in
-    let asks = side-asks allWords (args .from) (args .n) (omega (arith, many)) (args .found .held) (start .pre .3) (c .before .before .before .loop .k) (omega arith) in
+    let asks = side-asks allWords (args .from) (args .n) (omega arith) (args .found .held) (start .pre .3) (c .before .before .before .loop .k) (omega arith) in
     (start .pre .0, rw (c .before .word-at .ensures) asks)
 
 add-k : tie.Need-add-k Inv-loop μ-loop
@@ -57,7 +57,7 @@ loop-again c =
     let written = c .before .before .build-word .ensures in (
       omega arith,
       written (start .pre .0 .0) (start .pre .0 .1) .size ∙ loop .inv .1,
-      λ d h. added-as (side-more allWords (args .from) (args .n) (omega (arith, many)) (contextIn (args .ds .now)) d (loop .k) (omega arith)) (added-both (loop .inv .2 d h) (rw (c .before .before .before .before .word-at .ensures) at (written d h))),
+      λ d h. added-as (side-more allWords (args .from) (args .n) (omega arith) (contextIn (args .ds .now)) d (loop .k) (omega arith)) (added-both (loop .inv .2 d h) (rw (c .before .before .before .before .word-at .ensures) at (written d h))),
     )
 
 same-length : tie.Need-same-length Inv-loop μ-loop
@@ -66,7 +66,7 @@ same-length c = search needs
 returns : tie.Need-returns Inv-loop μ-loop
 returns c =
     let args = c .before .before .before .before .before .args in
-    let all = side-all allWords (args .from) (args .n) (omega (arith, many)) (c .before .loop .k) (omega arith) in
+    let all = side-all allWords (args .from) (args .n) (omega arith) (c .before .loop .k) (omega arith) in
     λ d h. added-as (ap (pieces (contextIn (args .ds .now)) d) all) (c .before .loop .inv .2 d h)
 
 pub build-side-spec : {M : Type 1} → statement M

@@ -4,8 +4,8 @@ use Prim.Native.Nat.{ℕ, _-_}
 use lib.ListN.{length, take, drop}
 use borrow.Author.Needs.{needs}
 use Rattle.words.specs.Words.{Added}
-use Rattle.words.proofs.Runs.{added-both}
-use Rattle.step.proofs.Added.{added-as, to-end}
+use Rattle.words.proofs.Runs.{added-both, to-end}
+use Rattle.step.proofs.Added.{added-as}
 use Rattle.step.proofs.collecting.append_others.Statement.{statement}
 use Rattle.step.proofs.collecting.append_others.Tie as tie
 

@@ -6,7 +6,6 @@ use borrow.Author.Tests.{not-true, not-false}
 use Rattle.term.specs.Trees.{words}
 use Rattle.declarations.proofs.Entries.{well-formed}
 use Rattle.rulebook.specs.Rows.{patternWords}
-use Rattle.rulebook.proofs.Rows.{many}
 use Rattle.step.specs.Code.Matching.{Matched}
 use Rattle.step.specs.Code.Building.{pieces, Caught}
 use Rattle.step.specs.Code.Site.{Site, Equation}
@@ -68,7 +67,7 @@ part-match-side-end : tie.Need-part-match-side-end
 part-match-side-end c = let b = site-bounds (c .before .before .before .before .before .before .before .pre .0) in search needs
 
 match-side-requires : tie.Need-match-side-requires
-match-side-requires c κs = omega (arith, sides-room (c .before .before .before .before .before .before .before .before .pre .1), many)
+match-side-requires c κs = omega (arith, sides-room (c .before .before .before .before .before .before .before .before .pre .1))
 
 refused-requires-3 : tie.Need-refused-requires-3
 refused-requires-3 c κs = search needs
@@ -105,7 +104,7 @@ build-side-requires c κs =
     let pre = c .before .before .before .before .before .before .before .before .before .before .before .before .before .before .before .pre in
     let e = pre .1 in
     let f = found (c .before .before .before .before) (pre .0) e in
-    ((_, held (c .before .before .before .before) (pre .0) e), omega (arith, sides-room e, many), omega arith, rw (right-side e) (right-asks (e .number) (e .rule) (pre .0 .tree) (pre .0 .formed) _ f))
+    ((_, held (c .before .before .before .before) (pre .0) e), omega (arith, sides-room e), omega arith, rw (right-side e) (right-asks (e .number) (e .rule) (pre .0 .tree) (pre .0 .formed) _ f))
 
 same-length : tie.Need-same-length
 same-length c = search needs

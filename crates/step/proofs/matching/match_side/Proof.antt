@@ -22,7 +22,7 @@ loop-holds : tie.Need-loop-holds Inv-loop μ-loop
 loop-holds c = let b = c .begun .ensures in walking-begun _ _ _ _ _ (b .0) (b .1) (b .2 _)
 
 add-word-at : tie.Need-add-word-at Inv-loop μ-loop
-add-word-at c = search needs
+add-word-at c = let m = many in search needs
 
 word-at-requires : tie.Need-word-at-requires Inv-loop μ-loop
 word-at-requires c κs = search needs
@@ -34,7 +34,7 @@ returns : tie.Need-returns Inv-loop μ-loop
 returns c =
     let loop = c .before .before .before .before .before .loop in
     let walked = rw (c .before .before .before .word-at .ensures) at (c .before .before .match-word .ensures (loop .inv .held) (loop .inv .holds)) in
-    walking-stops _ _ _ _ _ _ (loop .inv) (omega (arith, many)) (omega arith) _ walked (not-true _ (c .if1 .taken))
+    walking-stops _ _ _ _ _ _ (loop .inv) (omega arith) (omega arith) _ walked (not-true _ (c .if1 .taken))
 
 add-k : tie.Need-add-k Inv-loop μ-loop
 add-k c = search needs
@@ -46,7 +46,7 @@ loop-again : tie.Need-loop-again Inv-loop μ-loop
 loop-again c =
     let loop = c .before .before .before .before .before .loop in
     let walked = rw (c .before .before .before .word-at .ensures) at (c .before .before .match-word .ensures (loop .inv .held) (loop .inv .holds)) in
-    walking-more _ _ _ _ _ _ (loop .inv) (omega (arith, many)) (omega arith) _ walked (not-false _ (c .if1 .left))
+    walking-more _ _ _ _ _ _ (loop .inv) (omega arith) (omega arith) _ walked (not-false _ (c .if1 .left))
 
 returns-2 : tie.Need-returns-2 Inv-loop μ-loop
 returns-2 c = walking-done _ _ _ _ _ _ (c .before .loop .inv) (omega arith)

@@ -3,7 +3,7 @@ use mathlib.Core.Path.{refl, sym, _∙_, ap}
 use borrow.Author.Needs.{needs}
 use borrow.Author.Tests.{ne-eqb}
 use Rattle.typing.specs.declared.terms.Typing.{Typing}
-use Rattle.step.proofs.Putting.{cleared-twice}
+use Rattle.words.proofs.Runs.{cleared-twice}
 use Rattle.step.proofs.Taking.{inside-slice, untouched, all-zeros, cleared-accepted, entry-done}
 use Rattle.step.proofs.single.take_step.Statement.{statement}
 use Rattle.step.proofs.single.take_step.Tie as tie

@@ -6,8 +6,8 @@ use native.Mathlib.Nat.{sub-zero}
 use lib.ListN.{length, take, drop}
 use borrow.Author.Needs.{needs}
 use Rattle.words.specs.Words.{Added}
-use Rattle.words.proofs.Runs.{added-both}
-use Rattle.step.proofs.Added.{added-as, to-end}
+use Rattle.words.proofs.Runs.{added-both, to-end}
+use Rattle.step.proofs.Added.{added-as}
 use Rattle.step.proofs.spreading.append_around.Statement.{statement}
 use Rattle.step.proofs.spreading.append_around.Tie as tie
 

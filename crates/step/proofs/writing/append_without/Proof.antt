@@ -1,7 +1,7 @@
 -- A word and two runs, one behind the other.
 use borrow.Author.Needs.{needs}
-use Rattle.words.proofs.Runs.{added-both}
-use Rattle.step.proofs.Added.{added-as, to-end}
+use Rattle.words.proofs.Runs.{added-both, to-end}
+use Rattle.step.proofs.Added.{added-as}
 use Rattle.step.proofs.writing.append_without.Statement.{statement}
 use Rattle.step.proofs.writing.append_without.Tie as tie
 
