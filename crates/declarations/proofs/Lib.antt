@@ -1,6 +1,6 @@
 -- The laws of declarations that the crates above cite.
 pub mod Entries
-mod Put
+pub mod Put
 mod Stores
 pub mod Kept
 pub mod Grown

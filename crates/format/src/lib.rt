@@ -1,0 +1,1 @@
+// The form of a file: definitions and laws.

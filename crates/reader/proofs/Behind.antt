@@ -1,0 +1,118 @@
+-- The tokens behind a letter, and a term in its slice.
+use mathlib.Core.Path.{_≡_, refl, sym, _∙_, ap}
+use mathlib.Core.Logic.{_≢_}
+use mathlib.Core.Bool.{Bool, true, false, cond}
+use mathlib.Core.List.{List, [], _∷_}
+use mathlib.Core.Option.{Option, some, none}
+use Prim.Native.Nat.{ℕ, _+_, _-_, _≤_, _<_}
+use native.Mathlib.Omega.{arith}
+use borrow.Author.Tests.{eq-eqb, ne-eqb, leb-true, leb-false}
+use lib.Dec.{leb}
+use lib.ListN.{length, take, drop, getD, replicate, length-replicate}
+use lib.Seq.{drop-cons}
+use Rattle.words.specs.Words.{cleared}
+use Rattle.words.proofs.Runs.{to-end}
+use Rattle.term.specs.declared.terms.Names.{Names}
+use Rattle.term.specs.Terms.{maxWords, termWords, isTerm}
+use Rattle.term.proofs.TermTest.{term-in, term-past, term-long, term-tree}
+use Rattle.declarations.specs.Declarations.{namesIn}
+use Rattle.text.specs.declared.tokens.Tokens.{Tokens}
+use Rattle.text.specs.declared.tokens.Tokens.the-variants.{Count, Malformed}
+use Rattle.text.specs.Pieces.{Text, space, parted}
+use Rattle.text.specs.Tokens.{tokensIn, toldTokens, stored}
+use Rattle.text.proofs.Told.{no-tokens, some-words}
+use Rattle.format.specs.Files.{File, namesOf}
+use Rattle.format.specs.Reading.{Line, wrong, good, wordsBehind, takeTerm}
+use Rattle.format.specs.Kept.{declarationsOf, padded}
+use Rattle.format.specs.Files.{Sound}
+use Rattle.format.proofs.Declared.{names-declared}
+use Rattle.format.proofs.Padded.{stored-front, stored-words, stored-size, padded-none, padded-size}
+use Rattle.reader.specs.declared.faults.Fault.{Fault}
+use Rattle.reader.specs.declared.terms.Term.{Term}
+use Rattle.reader.specs.Code.Lines.{fault, faultOf, Placed}
+
+-- so many words of a slice, as they were read into it
+pub front-words : (s : Text) (out : List ℕ) {ws out′ : List ℕ} {n : ℕ} → tokensIn s ≡ some ws → n ≡ length ws → out′ ≡ stored (parted space s) out 0 → n ≤ length out → take n out′ ≡ ws
+front-words s out {ws} e f g h = rw (g, f) (stored-front s ws out e (omega arith))
+
+-- ---- behind a letter
+abbrev pub Front : Text → ℕ → List ℕ → Type 0
+Front s size out = (ws : List ℕ) → wordsBehind s ≡ some ws → length ws ≤ size → take (length ws) out ≡ ws
+
+pub behind-none : (s : Text) (out : List ℕ) → length s ≡ 0 → (Count 0 ≡ toldTokens (wordsBehind s)) × Front s (length out) out
+unfolding wordsBehind toldTokens
+behind-none [] out h = (refl, λ ws e l. let z : [] ≡ ws = cc in rw (sym z))
+behind-none (b ∷ s) out h = absurd (omega arith)
+
+pub behind-unspaced : (s : Text) (out : List ℕ) → length s ≢ 0 → getD s 0 0 ≢ 32 → (Malformed ≡ toldTokens (wordsBehind s)) × Front s (length out) out
+unfolding wordsBehind toldTokens
+behind-unspaced [] out h g = absurd (h refl)
+behind-unspaced (b ∷ s) out h g = (rw (ne-eqb b space g), λ ws e l. absurd (let z : _≡_ {A = ℕ} 0 1 = cc (rw (ne-eqb b space g) at e) in omega arith))
+
+pub behind-tokens : (s : Text) (out : List ℕ) {r : Tokens} {out′ : List ℕ} → length s ≢ 0 → getD s 0 0 ≡ 32
+    → r ≡ toldTokens (tokensIn (take (length s - 1) (drop 1 s))) → out′ ≡ stored (parted space (take (length s - 1) (drop 1 s))) out 0
+    → (r ≡ toldTokens (wordsBehind s)) × Front s (length out) out′
+unfolding wordsBehind
+behind-tokens [] out h g e o = absurd (h refl)
+behind-tokens (b ∷ s) out {r} {out′} h g e o =
+    let z : wordsBehind (b ∷ s) ≡ tokensIn s = rw (eq-eqb b space g) in
+    let t = to-end (b ∷ s) 1 in
+    let p : out′ ≡ stored (parted space s) out 0 = rw t at o in
+    ((rw t at e) ∙ rw z, λ ws k l. rw p (stored-front s ws out (sym z ∙ k) l))
+
+pub front-behind : (s : Text) (size : ℕ) {ws out : List ℕ} {n : ℕ} → Front s size out → wordsBehind s ≡ some ws → n ≡ length ws → n ≤ size → take n out ≡ ws
+front-behind s size {ws} f e g h = rw g (f ws e (omega arith))
+
+-- ---- a term in its slice
+pub no-tokens-placed : (f : File) (s : Text) {line : ℕ} {r : Term} {out : List ℕ} → tokensIn s ≡ none → r .fault ≡ fault 5 line → Placed f line s r out
+unfolding takeTerm faultOf
+no-tokens-placed f s n a = record { answer = λ put. a ∙ rw n; words = λ ws k t. absurd (let z : _≡_ {A = ℕ} 0 1 = cc in omega arith) }
+
+-- the slice was cleared before
+pub cleared-all : (ws : List ℕ) (n : ℕ) → length ws ≡ n → cleared ws 0 ≡ replicate n 0
+unfolding cleared
+cleared-all ws n e = let z : length ws - 0 ≡ n = omega arith in rw z
+
+term-few : (N : Names) (ws : List ℕ) → termWords N ws ≡ true → length ws ≤ maxWords
+term-few N ws e = let t = term-tree N ws e in rw (sym (t .1)) (t .2 .short)
+
+-- what is read into it, and the test of a term there, which is that of its words
+module _ (s : Text) (before ws : List ℕ) {out : List ℕ} {n : ℕ} (k : tokensIn s ≡ some ws) (l : n ≡ length ws) (z : length before ≡ maxWords)
+    (o : out ≡ stored (parted space s) (cleared before 0) 0) where
+  in-zeros : out ≡ stored (parted space s) (replicate maxWords 0) 0
+  in-zeros = rw (cleared-all before maxWords z) at o
+
+  size-is : length out ≡ maxWords
+  size-is = rw in-zeros (stored-size (parted space s) (replicate maxWords 0) 0 ∙ length-replicate {A = ℕ} maxWords 0)
+
+  test-by : (N : Names) (t : Bool) → leb (length ws) maxWords ≡ t → isTerm N out n ≡ termWords N ws
+  test-by N true f =
+      let h = leb-true (length ws) maxWords f in
+      let i = size-is in
+      term-in N out n (omega arith)
+      ∙ ap (termWords N) (front-words s (replicate maxWords 0) k l in-zeros (omega (arith, length-replicate {A = ℕ} maxWords 0)))
+  test-by N false f =
+      let h = leb-false (length ws) maxWords f in
+      let i = size-is in term-past N out n (omega arith) ∙ sym (term-long N ws (omega arith) (omega arith))
+
+  test-is : (N : Names) → isTerm N out n ≡ termWords N ws
+  test-is N = test-by N (leb (length ws) maxWords) refl
+
+  words-in : (N : Names) → termWords N ws ≡ true → out ≡ padded ws
+  words-in N t = in-zeros ∙ stored-words s ws k (term-few N ws t)
+
+  module _ (f : File) (sound : Sound f) (ds : List ℕ) (e : ds ≡ declarationsOf f) {N : Names} (m : N ≡ namesIn ds) where
+    names-are : N ≡ namesOf f
+    names-are = m ∙ rw e (names-declared f sound)
+
+    pub no-term-placed : {line : ℕ} {r : Term} → isTerm N out n ≡ false → r .fault ≡ fault 8 line → Placed f line s r out
+    unfolding takeTerm faultOf
+    no-term-placed t a =
+        let u : termWords (namesOf f) ws ≡ false = sym (test-is (namesOf f)) ∙ (rw names-are at t) in
+        record { answer = λ put. a ∙ rw (k, u); words = λ vs p q. absurd (let z : ws ≡ vs = cc in let y : _≡_ {A = ℕ} 0 1 = cc in omega arith) }
+
+    pub term-placed : {line : ℕ} {r : Term} → isTerm N out n ≡ true → r .fault ≡ fault 0 0 → r .length ≡ n → Placed f line s r out
+    unfolding takeTerm faultOf
+    term-placed t a b =
+        let u : termWords (namesOf f) ws ≡ true = sym (test-is (namesOf f)) ∙ (rw names-are at t) in
+        record { answer = λ put. a ∙ rw (k, u); words = λ vs p q. let z : ws ≡ vs = cc in (words-in (namesOf f) u ∙ rw z, b ∙ l ∙ rw z) }

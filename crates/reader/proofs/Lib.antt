@@ -1,0 +1,8 @@
+-- The laws of the reading.
+mod Named
+mod Behind
+mod Fields
+mod Held
+mod Keys
+mod Walked
+mod Entered

@@ -1,0 +1,170 @@
+-- The walk over the lines: what is left of the reading is the reading of the lines from the cursor on.
+use mathlib.Core.Path.{_≡_, refl, sym, _∙_, ap}
+use mathlib.Core.Logic.{_≢_}
+use mathlib.Core.Bool.{Bool, true, false, cond, and-eq-true-iff}
+use mathlib.Core.List.{List, [], _∷_, _++_}
+use Prim.Native.Nat.{ℕ, _+_, _-_, _≤_, _<_}
+use native.Mathlib.Omega.{arith}
+use borrow.Author.Tests.{eq-eqb, ne-eqb}
+use lib.Dec.{eqb}
+use lib.ListN.{length, take, drop, replicate, length-append, length-drop, drop-of-length-le}
+use lib.Seq.{take-at, drop-drop, drop-append-add}
+use Rattle.bytes.specs.Bytes.{indexOf}
+use Rattle.text.specs.Bytes.{lineFeed, badLine}
+use Rattle.text.specs.Pieces.{Text, linesOf, ended, pieceEnd}
+use Rattle.text.proofs.Cutting.{lacks, allLack, index-lacks, lines-lack, ended-lines}
+use Rattle.format.specs.Files.{File}
+use Rattle.format.specs.Reading.{Line, wrong, good, lineOf, Reading, onLine, keyOf, stageAfter, readFrom, nothing}
+use Rattle.format.specs.Reading as R
+use Rattle.format.specs.Kept.{stepsSize, declarationsOf, padded, putSteps, stepsOf}
+use Rattle.format.proofs.Codes.{Marked, marked, line}
+use Rattle.format.proofs.Reached.{start}
+use Rattle.lent.specs.Lent.{maxSteps}
+use Rattle.reader.specs.declared.files.Read.{Read}
+use Rattle.reader.specs.declared.walking.State.{State}
+use Rattle.reader.specs.declared.walking.Taken.{Taken}
+use Rattle.reader.specs.Answers.{refusal, answerOf}
+use Rattle.reader.specs.Code.Lines.{fault, faultOf}
+use Rattle.reader.specs.Code.Holding.{Holding, After, Sizes, Found}
+use Rattle.reader.proofs.Held.{few-steps-at}
+
+-- from the offset `at` on, in line `line`, with what the slices hold
+pub record Rest (bytes : Text) (at line : ℕ) (s : State) (ds ls rs ms : List ℕ) : Type 0 where
+  pub file : File
+  pub lines : List Text
+  pub holding : Holding s file ds ls rs ms
+  pub text : drop at bytes ≡ ended lines
+  pub lack : allLack lineFeed lines ≡ true
+  pub same : readFrom 1 0 nothing (linesOf bytes) ≡ readFrom line (s .stage) file lines
+
+abbrev pub beginning : State
+beginning = record { stage = 0; left = 0; right = 0; steps = 0 }
+
+pub rest-start : {bytes : Text} {ds ls rs ms : List ℕ} → badLine 1 false bytes ≡ 0 → ms ≡ replicate stepsSize 0 → Rest bytes 0 1 beginning ds ls rs ms
+unfolding stepsOf putSteps
+rest-start {bytes} b m = record {
+  file = nothing;
+  lines = linesOf bytes;
+  holding = record {
+    lines = [];
+    reached = start;
+    declarations = λ n. absurd (n refl);
+    left = λ h. absurd (omega arith);
+    right = λ h. absurd (omega arith);
+    steps = (m, refl);
+  };
+  text = sym (ended-lines 1 false bytes b (omega arith));
+  lack = lines-lack lineFeed bytes;
+  same = refl;
+}
+
+-- ---- the next line
+pub record Next (bytes : Text) (at end : ℕ) (lines : List Text) : Type 0 where
+  pub line : Text
+  pub others : List Text
+  pub are : lines ≡ line ∷ others
+  pub is : take (end - at) (drop at bytes) ≡ line
+  pub rest : drop (end + 1) bytes ≡ ended others
+  pub lack : allLack lineFeed others ≡ true
+  pub within : (at ≤ end) × (end < length bytes)
+
+next-line : (bytes : Text) (at : ℕ) {end : ℕ} (lines : List Text) → drop at bytes ≡ ended lines → allLack lineFeed lines ≡ true → at < length bytes → end ≡ pieceEnd bytes at lineFeed → Next bytes at end lines
+unfolding ended allLack pieceEnd
+next-line bytes at [] e l h p = absurd (let d = length-drop at bytes in let z : length (drop at bytes) ≡ 0 = ap length e in omega arith)
+next-line bytes at {end} (x ∷ xs) e l h p =
+    let a = and-eq-true-iff (lacks lineFeed x) (allLack lineFeed xs) .0 l in
+    let i : indexOf lineFeed (drop at bytes) ≡ length x = rw e (index-lacks lineFeed x (ended xs) (a .0)) in
+    let n : end - at ≡ length x = omega arith in
+    let m : end + 1 ≡ at + (length x + 1) = omega arith in
+    let d = length-drop at bytes in
+    let k : length (drop at bytes) ≡ length x + length (lineFeed ∷ ended xs) = rw e (length-append x (lineFeed ∷ ended xs)) in
+    record {
+      line = x;
+      others = xs;
+      are = refl;
+      is = rw (n, e) (take-at x (lineFeed ∷ ended xs) (length x) refl);
+      rest = rw (m, ← drop-drop (length x + 1) at bytes, e) (drop-append-add x (lineFeed ∷ ended xs) 1);
+      lack = a .1;
+      within = (omega arith, omega arith);
+    }
+
+-- ---- a line's fault, and no fault
+module _ (n s : ℕ) (f : File) (l : Text) (ls : List Text) (r : Taken) (answer : r .fault ≡ faultOf n (lineOf s f l)) where
+  pub line-fault : r .fault .code ≢ 0 → refusal (r .fault .code) (r .fault .at) ≡ answerOf (readFrom n s f (l ∷ ls))
+  unfolding readFrom onLine faultOf answerOf
+  line-fault h = go (lineOf s f l) answer
+    where
+      go : (x : Line) → r .fault ≡ faultOf n x → refusal (r .fault .code) (r .fault .at) ≡ answerOf (onLine x (λ c. R.fault c n) (λ g. readFrom (n + 1) (stageAfter (keyOf l)) g ls))
+      go (wrong c) e = rw e
+      go (good g) e = absurd (h (ap (λ x. x .code) e))
+
+  pub line-good : r .fault .code ≡ 0 → (g : File) × (lineOf s f l ≡ good g) × (readFrom n s f (l ∷ ls) ≡ readFrom (n + 1) (stageAfter (keyOf l)) g ls)
+  unfolding readFrom onLine faultOf
+  line-good h = go (lineOf s f l) refl answer (line f s l)
+    where
+      go : (x : Line) → lineOf s f l ≡ x → r .fault ≡ faultOf n x → Marked x
+          → (g : File) × (lineOf s f l ≡ good g) × (onLine (lineOf s f l) (λ c. R.fault c n) (λ g. readFrom (n + 1) (stageAfter (keyOf l)) g ls) ≡ readFrom (n + 1) (stageAfter (keyOf l)) g ls)
+      go (wrong c) e a (marked d k) = absurd (let z : r .fault .code ≡ c = ap (λ x. x .code) a in omega arith)
+      go (good g) e a k = (g, e, rw e)
+
+no-line : (xs : List Text) → ended xs ≡ [] → xs ≡ []
+unfolding ended
+no-line [] z = refl
+no-line (x ∷ xs) z = absurd (let k : length (x ++ lineFeed ∷ ended xs) ≡ 0 = ap length z in omega (arith, length-append x (lineFeed ∷ ended xs)))
+
+code-of : {o : Reading} {f : File} → o ≡ R.read f → answerOf o .code ≡ 0
+unfolding answerOf
+code-of e = rw e
+
+-- ---- from line to line
+module _ {bytes : Text} {at line : ℕ} {s : State} {ds ls rs ms : List ℕ} (h : Rest bytes at line s ds ls rs ms) where
+  pub few-steps : s .steps ≤ maxSteps
+  few-steps = let e = h .holding .steps .1 in let k = few-steps-at (h .holding .reached) in omega arith
+
+  pub next : {end : ℕ} → at < length bytes → end ≡ pieceEnd bytes at lineFeed → Next bytes at end (h .lines)
+  next g e = next-line bytes at (h .lines) (h .text) (h .lack) g e
+
+  module _ {end : ℕ} (x : Next bytes at end (h .lines)) {r : Taken} {es ks qs ns : List ℕ} (a : After line (keyOf (x .line)) (lineOf (s .stage) (h .file) (x .line)) r es ks qs ns) where
+    pub stops : r .fault .code ≢ 0 → refusal (r .fault .code) (r .fault .at) ≡ answerOf (readFrom 1 0 nothing (linesOf bytes))
+    stops c = line-fault line (s .stage) (h .file) (x .line) (x .others) r (a .answer) c ∙ rw (h .same, x .are)
+
+    pub goes-on : r .fault .code ≡ 0 → Rest bytes (end + 1) (line + 1) (r .state) es ks qs ns
+    goes-on c =
+        let g = line-good line (s .stage) (h .file) (x .line) (x .others) r (a .answer) c in
+        record {
+          file = g .0;
+          lines = x .others;
+          holding = a .holding (g .0) (g .1);
+          text = x .rest;
+          lack = x .lack;
+          same = h .same ∙ ap (readFrom line (s .stage) (h .file)) (x .are) ∙ g .2 ∙ ap (λ t. readFrom (line + 1) t (g .0) (x .others)) (sym (a .stage (g .0) (g .1)));
+        }
+
+  -- ---- at the end
+  module _ (e : length bytes ≤ at) where
+    at-end : readFrom 1 0 nothing (linesOf bytes) ≡ readFrom line (s .stage) (h .file) []
+    at-end = h .same ∙ ap (readFrom line (s .stage) (h .file)) (no-line (h .lines) (sym (h .text) ∙ drop-of-length-le bytes e))
+
+    pub ends-early : s .stage ≢ 5 → refusal 4 line ≡ answerOf (readFrom 1 0 nothing (linesOf bytes))
+    unfolding readFrom answerOf
+    ends-early n = rw (at-end, ne-eqb (s .stage) 5 n)
+
+    pub ends-well : Sizes ds ls rs ms → s .stage ≡ 5
+        → Found (readFrom 1 0 nothing (linesOf bytes)) (record { code = 0; at = 0; left = s .left; right = s .right; steps = s .steps }) ds ls rs ms
+    unfolding readFrom answerOf
+    ends-well z n =
+        let o : readFrom 1 0 nothing (linesOf bytes) ≡ R.read (h .file) = rw (at-end, eq-eqb (s .stage) 5 n) in
+        let l = h .holding .left (omega arith) in
+        let r = h .holding .right (omega arith) in
+        let m = h .holding .steps in
+        record {
+          answer = rw (o, l .1, r .1, m .1);
+          sizes = z;
+          words = λ f k.
+              let y : h .file ≡ f = cc in
+              rw (← y) (h .holding .declarations (λ x. omega arith), l .0, r .0, m .0);
+        }
+
+-- a fault leaves nothing to be said of the words
+pub found-fault : {o : Reading} {r : Read} {c n : ℕ} {ds ls rs ms : List ℕ} → r ≡ refusal c n → refusal c n ≡ answerOf o → c ≢ 0 → Sizes ds ls rs ms → Found o r ds ls rs ms
+found-fault {o} {r} {c} e a n z = record { answer = e ∙ a; sizes = z; words = λ f k. absurd (n (ap (λ x. x .code) a ∙ code-of k)) }

@@ -1,0 +1,3 @@
+-- How the code reads a file: what only the contracts of private functions cite.
+pub mod Lines
+pub mod Holding

@@ -1,0 +1,7 @@
+// The reading of a file into lent words.
+mod declaring;
+mod faults;
+pub mod files;
+mod stepping;
+mod terms;
+mod walking;
