@@ -1,6 +1,6 @@
 #!/usr/bin/env bash
 # All tests, from nothing: the checker's, then every proof, every edit that must be refused, every program against its stored output, then the
-# proved typing, the proved step and the proved run against the checker's on random cases.
+# proved typing, the proved step, the proved run and the proved replay against the checker's on random cases.
 set -euo pipefail
 cd "$(dirname "$0")"
 (cd checker && cargo test --release --offline)
@@ -11,4 +11,5 @@ rt ci 2>&1 | tee "$log"
 checker/compare.sh typing 1 10000
 checker/compare.sh step 1 10000
 checker/compare.sh run 1 10000
+checker/compare.sh replay 1 10000
 tail -n 1 "$log"

@@ -1,8 +1,8 @@
 #!/usr/bin/env bash
 # A proved program against the checker on random cases: checker/compare.sh KIND [SEED [COUNT]], from the root of the repository. KIND is
-# typing, step or run.
+# replay, typing, step or run.
 set -euo pipefail
-kind=${1:?KIND is typing, step or run}
+kind=${1:?KIND is replay, typing, step or run}
 seed=${2:-1}
 count=${3:-10000}
 program=target/bin/${kind}_cases
@@ -28,11 +28,16 @@ if [ -n "$at" ]; then
     input=$(find "$folder/$kind" -name '*.in' | LC_ALL=C sort | sed -n "${at}p")
     {
         echo "The $kind case $at of $count of seed $seed differs:"
-        cat "$input"
+        cat -v "$input"
         echo "The checker answers:"
         cat "${input%.in}.out"
-        echo "As numbers, the case, the answer expected, and the one found:"
-        for lines in cases expected found; do
+        # The bytes of a file stand in no one line.
+        if [ "$kind" != replay ]; then
+            echo "The case as numbers:"
+            sed -n "${at}p" "$folder/cases"
+        fi
+        echo "As numbers, the answer expected, and the one found:"
+        for lines in expected found; do
             sed -n "${at}p" "$folder/$lines"
         done
     } >&2

@@ -16,9 +16,10 @@ checker typing < FILE               the answer to a typing case
 checker step < FILE                 the answer to a step case
 checker run < FILE                  the answer to a run case
 checker vectors DIR                 runs the cases under a folder
-checker gen SEED COUNT KIND DIR     writes cases; KIND is accepted, damaged, typing, step or run
+checker gen SEED COUNT KIND DIR     writes cases; KIND is accepted, damaged, replay (files of
+                                    all sorts), typing, step or run
 checker numbers KIND DIR IN OUT     writes a folder's cases and stored answers as numbers;
-                                    KIND is typing, step or run
+                                    KIND is replay, typing, step or run
 ";
 
 fn main() -> ExitCode {
@@ -75,7 +76,7 @@ fn generate(seed: &str, count: &str, kind: &str, folder: &Path) -> Result<(), St
     let seed: u64 = seed.parse().map_err(|_| "SEED is a number".to_string())?;
     let count: usize = count.parse().map_err(|_| "COUNT is a number".to_string())?;
     let sort = match kind {
-        "accepted" | "damaged" => Sort::Replay,
+        "accepted" | "damaged" | "replay" => Sort::Replay,
         "typing" => Sort::Typing,
         "step" => Sort::Step,
         "run" => Sort::Run,
@@ -92,6 +93,7 @@ fn generate(seed: &str, count: &str, kind: &str, folder: &Path) -> Result<(), St
                 let file = gen.accepted(30);
                 damaged(&mut gen.rng, &file)
             }
+            "replay" => gen.replay_case(),
             "typing" => gen.typing_case(),
             "step" => gen.step_case(),
             _ => gen.run_case(),
@@ -106,6 +108,7 @@ fn generate(seed: &str, count: &str, kind: &str, folder: &Path) -> Result<(), St
 /// Writes a folder's cases to one file and their stored answers to another.
 fn numbered(kind: &str, folder: &Path, input: &str, output: &str) -> Result<(), String> {
     let (cases, answers) = match kind {
+        "replay" => numbers::replay(folder)?,
         "typing" => numbers::typing(folder)?,
         "step" => numbers::step(folder)?,
         "run" => numbers::run(folder)?,

@@ -10,53 +10,79 @@
 //! words of the whole slice, the word behind the first ones, the rule, the
 //! place, i and j. A run case has for the left and then the right what the slice
 //! begins with and how many words it has; then the count of steps that is told,
-//! the number of the steps' words, and these.
+//! the number of the steps' words, and these. A file is no line of numbers: it
+//! is its length, a line feed, and its bytes as they are.
 //!
 //! An answer begins with code, side, step, at. Typing adds length, depth, kind,
 //! and the lengths and words of the index of the rows and that of the columns;
-//! a step the length and the slice, a run both lengths and both slices: the
-//! number of words up to the last that is not zero, and these. Answers are made
-//! of the stored `.out` alone: this checker neither types a case nor takes its
-//! steps.
+//! a step the length and the slice, a run and a replay both lengths and both
+//! slices: the number of words up to the last that is not zero, and these.
+//! Answers are made of the stored `.out` alone: this checker neither types a
+//! case nor takes its steps. Only the words that a replay leaves in its slices
+//! are the checker's own, since the `.out` of a file does not tell them.
 
 use crate::case::{inputs, Sort};
 use crate::decl::{Declarations, Letter, Variable};
 use crate::file::{number, words};
 use crate::lent::{Case, Lent, RunCase};
-use crate::words::{part, WORDS};
+use crate::replay::replay as replayed;
+use crate::words::{part, used, WORDS};
 use std::fs;
 use std::path::Path;
 use std::str::Lines;
 
+/// The most bytes of a file that the program reads: more than a file may have.
+const MOST: usize = 70_000;
+
+/// Cases, and their answers a line each.
+pub type Numbered = (Vec<u8>, String);
+
+/// The files of a folder by name, and their stored answers with the words that
+/// this checker's replay leaves.
+pub fn replay(folder: &Path) -> Result<Numbered, String> {
+    numbered(folder, Sort::Replay, |file| Ok(counted(file)), replay_answer)
+}
+
 /// The typing cases of a folder by name, and their stored answers.
-pub fn typing(folder: &Path) -> Result<(String, String), String> {
+pub fn typing(folder: &Path) -> Result<Numbered, String> {
     lines(folder, Sort::Typing, typing_case, typing_answer)
 }
 
 /// The step cases of a folder by name, and their stored answers.
-pub fn step(folder: &Path) -> Result<(String, String), String> {
+pub fn step(folder: &Path) -> Result<Numbered, String> {
     lines(folder, Sort::Step, step_case, step_answer)
 }
 
 /// The run cases of a folder by name, and their stored answers.
-pub fn run(folder: &Path) -> Result<(String, String), String> {
+pub fn run(folder: &Path) -> Result<Numbered, String> {
     lines(folder, Sort::Run, run_case, run_answer)
 }
 
+/// Cases that are a line each, and answers that are made of the stored ones.
 fn lines(
     folder: &Path,
     sort: Sort,
     of_case: fn(&[u8]) -> Result<Vec<usize>, String>,
     of_answer: fn(Stored) -> Option<Vec<usize>>,
-) -> Result<(String, String), String> {
-    let (mut cases, mut answers) = (String::new(), String::new());
+) -> Result<Numbered, String> {
+    let of_case = |input: &[u8]| Ok(line(&of_case(input)?).into_bytes());
+    numbered(folder, sort, of_case, |_, stored| of_answer(stored))
+}
+
+fn numbered(
+    folder: &Path,
+    sort: Sort,
+    of_case: impl Fn(&[u8]) -> Result<Vec<u8>, String>,
+    of_answer: impl Fn(&[u8], Stored) -> Option<Vec<usize>>,
+) -> Result<Numbered, String> {
+    let (mut cases, mut answers) = (Vec::new(), String::new());
     for input in inputs(&folder.join(sort.folder())).map_err(|error| error.to_string())? {
         let told = |error: String| format!("{}: {error}", input.display());
         let bytes = fs::read(&input).map_err(|error| told(error.to_string()))?;
         let stored = fs::read_to_string(input.with_extension("out"))
             .map_err(|error| told(error.to_string()))?;
-        cases += &line(&of_case(&bytes).map_err(told)?);
-        let answer = of_answer(Stored(stored.lines()));
+        cases.extend(of_case(&bytes).map_err(told)?);
+        let answer = of_answer(&bytes, Stored(stored.lines()));
         answers += &line(&answer.ok_or_else(|| told("no answer".into()))?);
     }
     if cases.is_empty() {
@@ -80,6 +106,13 @@ fn push(numbers: &mut Vec<usize>, words: &[u16]) {
 fn push_lent(numbers: &mut Vec<usize>, lent: &Lent) {
     numbers.push(lent.length);
     push(numbers, &lent.words);
+}
+
+/// The bytes of a file behind their number; of a longer one the first that the
+/// program reads, since all files of more than 65,536 bytes have one answer.
+fn counted(file: &[u8]) -> Vec<u8> {
+    let read = &file[..file.len().min(MOST)];
+    [format!("{}\n", read.len()).as_bytes(), read].concat()
 }
 
 /// The slice is the one that the program lends, 4,096 words with zeros behind
@@ -176,9 +209,19 @@ fn step_answer(mut stored: Stored) -> Option<Vec<usize>> {
     Some(out)
 }
 
+/// The six numbers are the stored ones. The words of the slices are those that
+/// this checker's replay leaves, where zeros stood before.
+fn replay_answer(file: &[u8], mut stored: Stored) -> Option<Vec<usize>> {
+    let mut out = stored.fields()?;
+    let (mut left, mut right) = ([0; WORDS], [0; WORDS]);
+    replayed(file, &mut left, &mut right);
+    push(&mut out, used(&left));
+    push(&mut out, used(&right));
+    Some(out)
+}
+
 fn run_answer(mut stored: Stored) -> Option<Vec<usize>> {
-    let fields = ["code", "side", "step", "at", "left", "right"];
-    let mut out = fields.iter().map(|key| stored.number(key)).collect::<Option<Vec<_>>>()?;
+    let mut out = stored.fields()?;
     push(&mut out, &stored.words("left-words")?);
     push(&mut out, &stored.words("right-words")?);
     Some(out)
@@ -194,6 +237,12 @@ impl<'s> Stored<'s> {
 
     fn number(&mut self, key: &str) -> Option<usize> {
         number(self.value(key)?.as_bytes())
+    }
+
+    /// The six numbers of a run or a replay.
+    fn fields(&mut self) -> Option<Vec<usize>> {
+        let keys = ["code", "side", "step", "at", "left", "right"];
+        keys.iter().map(|key| self.number(key)).collect()
     }
 
     /// No tokens are no words.

@@ -186,6 +186,24 @@ fn damaged_files_get_exactly_one_answer() {
     }
 }
 
+/// The files on which `test.sh` holds the proved replay to this checker. Code 2
+/// is left to the stored cases.
+#[test]
+fn the_files_that_are_compared_meet_every_code() {
+    let mut gen = Gen::new(1);
+    let mut codes = [0; 31];
+    for _ in 0..10_000 {
+        let file = gen.replay_case();
+        let run = run(&file, 1);
+        check_form(&file, &run);
+        codes[usize::from(run.answer.code)] += 1;
+    }
+    println!("answers by code: {codes:?}");
+    for code in [0, 3, 4, 5, 6, 7, 8, 9, 10, 11, 12, 20, 21, 22, 23, 30] {
+        assert!(codes[code] > 0, "code {code} was met");
+    }
+}
+
 #[test]
 fn noise_gets_an_answer() {
     let mut rng = Rng::new(common::seed() ^ 5);
@@ -217,6 +235,7 @@ fn the_same_seed_gives_the_same_files() {
             files.push(file);
             files.push(gen.typing_case());
             files.push(gen.step_case());
+            files.push(gen.replay_case());
         }
         files
     };

@@ -54,16 +54,18 @@ fn every_case_has_its_row() {
 }
 
 /// Holds what a program is run on to the stored cases.
-fn hold(program: &str, (cases, answers): (String, String)) {
+fn hold(program: &str, (cases, answers): numbers::Numbered) {
     let folder = Path::new(env!("CARGO_MANIFEST_DIR")).join("../crates").join(program);
-    let stored = |name: &str| fs::read_to_string(folder.join(name)).expect(name);
-    assert_eq!(cases, stored("stdin"), "see `checker numbers` in README.md");
-    assert_eq!(answers, stored("stdout"), "see `checker numbers` in README.md");
+    let stored = |name: &str| fs::read(folder.join(name)).expect(name);
+    let advice = "see `checker numbers` in README.md";
+    assert!(cases == stored("stdin"), "the stdin of {program}: {advice}");
+    assert!(answers.as_bytes() == stored("stdout"), "the stdout of {program}: {advice}");
 }
 
 #[test]
 fn the_programs_are_run_on_the_stored_cases() {
     let folder = Path::new(env!("CARGO_MANIFEST_DIR")).join("vectors");
+    hold("replay_cases", numbers::replay(&folder).expect("the cases as numbers"));
     hold("typing_cases", numbers::typing(&folder).expect("the cases as numbers"));
     hold("step_cases", numbers::step(&folder).expect("the cases as numbers"));
     hold("run_cases", numbers::run(&folder).expect("the cases as numbers"));

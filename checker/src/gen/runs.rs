@@ -1,7 +1,9 @@
 //! Cases for the run: derivations short and long, most of them good, the others
-//! with something wrong in a term, a step, or what is lent.
+//! with something wrong in a term, a step, or what is lent. Files for the replay,
+//! of such derivations too.
 
 use super::cases::lent_text;
+use super::damage::damaged;
 use super::terms::sum_head;
 use super::walks::{declared_text, Derivation};
 use super::Gen;
@@ -43,16 +45,42 @@ impl Gen {
     /// A run case: a derivation that is accepted, or one with something wrong,
     /// now and then with more than one thing.
     pub fn run_case(&mut self) -> Vec<u8> {
-        self.declare();
-        let mut derivation = self.any_derivation();
-        if self.rng.once_in(5) {
-            self.misderive(&mut derivation);
-        }
+        let derivation = self.good_or_bad();
         let mut case = self.lend(derivation);
         while self.rng.once_in(5) {
             self.mislend(&mut case);
         }
         text(&case)
+    }
+
+    /// A file: of a short derivation that is accepted, or of one as a run case
+    /// has it, now and then with another right side. Half of them are damaged.
+    pub fn replay_case(&mut self) -> Vec<u8> {
+        let file = if self.rng.once_in(2) {
+            self.accepted(30)
+        } else {
+            let mut derivation = self.good_or_bad();
+            if self.rng.once_in(20) {
+                let want = self.want();
+                derivation.right = self.term(&want, 2);
+            }
+            self.file(&derivation)
+        };
+        if self.rng.once_in(2) {
+            return file;
+        }
+        damaged(&mut self.rng, &file)
+    }
+
+    /// A derivation over new declarations that is accepted, or, once in five,
+    /// one with a step or a term changed.
+    fn good_or_bad(&mut self) -> Derivation {
+        self.declare();
+        let mut derivation = self.any_derivation();
+        if self.rng.once_in(5) {
+            self.misderive(&mut derivation);
+        }
+        derivation
     }
 
     /// Most often a short one; also long ones, and those that meet a limit.

@@ -1,5 +1,5 @@
-// Standard input as names and decimal numbers with one byte behind each. Any input is read: a number over the greatest usize counts as
-// that one, and the end of the input ends a name and a number too.
+// Standard input as names and decimal numbers with one byte behind each, and as bytes. Any input is read: a number over the greatest usize
+// counts as that one, and the end of the input ends a name and a number too.
 use crate::output;
 use libc::STDIN_FILENO;
 
@@ -184,4 +184,27 @@ pub fn next_words(room: &mut [u16]) -> &[u16] {
         i += 1;
     }
     front(room, n)
+}
+
+// The first `n` bytes, or all where there are fewer.
+fn front_bytes(bytes: &[u8], n: usize) -> &[u8] {
+    if n < bytes.len() {
+        return &bytes[..n];
+    }
+    bytes
+}
+
+// Puts the next `n` bytes to the front of `room`, or as many as it holds, and says how many there were. They are not read one by one, since
+// they may be many.
+fn read_bytes(room: &mut [u8], n: usize) -> usize {
+    if n < room.len() {
+        return io::read_full(STDIN_FILENO, &mut room[..n]);
+    }
+    io::read_full(STDIN_FILENO, room)
+}
+
+// The next `n` bytes, whatever they are, which are put to the front of `room`: fewer where the input ends or there is no more room.
+pub fn next_bytes(room: &mut [u8], n: usize) -> &[u8] {
+    let got = read_bytes(room, n);
+    front_bytes(room, got)
 }

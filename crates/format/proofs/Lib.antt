@@ -15,3 +15,4 @@ mod Rows
 mod Plain
 pub mod Codes
 pub mod Whole
+mod Samples

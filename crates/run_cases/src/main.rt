@@ -2,29 +2,13 @@
 // `case_declarations` reads them; for the left and then the right, the length that is told, how many words are put to the front of its slice,
 // and these, and how many words the slice has, up to 5,000; the count of steps that is told; how many words of steps are lent, up to 9,000,
 // and these. Each slice is the front of a room that is kept from case to case, so behind its words stands what the case before left there. An
-// answer is code, side, step, at, left, right and, for each slice, how many words it then has up to the last that is not zero, and these.
+// answer is a line of `case_answers`.
+use case_answers::write;
 use case_declarations::next_declarations;
 use cases::input::front_mut;
 use cases::input::next_number;
 use cases::input::next_words;
-use cases::output::also;
-use cases::output::also_slice;
-use cases::output::end_line;
-use cases::output::first;
-use step::run::Answer;
 use step::run::run_steps;
-
-fn write(answer: Answer, left: &[u16], right: &[u16]) {
-    first(answer.code);
-    also(answer.side);
-    also(answer.step);
-    also(answer.at);
-    also(answer.left);
-    also(answer.right);
-    also_slice(left);
-    also_slice(right);
-    end_line();
-}
 
 // Puts the words of a side to the front of its room, and lends as much of the room as the case says, since a caller may lend a slice of any
 // size.

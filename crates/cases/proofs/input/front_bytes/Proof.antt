@@ -1,0 +1,19 @@
+-- So many bytes as the slice has, or fewer, are a part of it.
+use mathlib.Core.Path.{sym}
+use native.Mathlib.Omega.{arith}
+use borrow.Author.Needs.{needs}
+use lib.Seq.{length-take-le}
+use Rattle.cases.proofs.input.front_bytes.Statement.{statement}
+use Rattle.cases.proofs.input.front_bytes.Tie as tie
+
+slice-aggregate-result : tie.Need-slice-aggregate-result
+slice-aggregate-result c = sym (length-take-le _ _ (omega arith))
+
+returns : tie.Need-returns
+returns c = search needs
+
+returns-2 : tie.Need-returns-2
+returns-2 c = search needs
+
+pub front-bytes-spec : {M : Type 1} → statement M
+front-bytes-spec = tie.close (tie.spec slice-aggregate-result returns returns-2)
