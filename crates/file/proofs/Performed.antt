@@ -1,5 +1,5 @@
 -- The reading and the run, one after the other, are the replay.
-use mathlib.Core.Path.{_≡_, refl, sym, _∙_, ap}
+use mathlib.Core.Path.{_≡_, refl, _∙_, ap}
 use mathlib.Core.Logic.{_≢_}
 use mathlib.Core.Bool.{Bool, true, false, _&&_, and-eq-true-iff}
 use mathlib.Core.List.{List}
@@ -10,7 +10,6 @@ use lib.Dec.{eqb}
 use lib.ListN.{length, replicate}
 use Rattle.term.specs.Terms.{maxWords}
 use Rattle.declarations.specs.Declarations.{size}
-use Rattle.text.specs.Pieces.{Text}
 use Rattle.format.specs.Files.{File}
 use Rattle.format.specs.Reading.{Reading, fault, read, readOf}
 use Rattle.format.specs.Kept.{stepsSize, declarationsOf, padded, stepsOf}

@@ -5,7 +5,6 @@ use Prim.Native.Nat.{ℕ}
 use lib.Dec.{eqb}
 use lib.ListN.{length, replicate}
 use Rattle.term.specs.Terms.{maxWords}
-use Rattle.text.specs.Pieces.{Text}
 use Rattle.format.specs.Files.{File}
 use Rattle.format.specs.Reading.{Reading, fault, read, readOf}
 use Rattle.format.specs.Kept.{declarationsOf, padded, stepsOf}

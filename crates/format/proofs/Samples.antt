@@ -1,7 +1,7 @@
 -- 01, "One session, whole": it is what is printed of the file that it says, and is read back; cut off, it is refused where 01 says.
 use mathlib.Core.Path.{_≡_, refl}
-use mathlib.Core.List.{List, [], _∷_, _++_}
-use Prim.Native.Nat.{ℕ, _≤_}
+use mathlib.Core.List.{[], _∷_}
+use Prim.Native.Nat.{_≤_}
 use native.Mathlib.Omega.{arith}
 use lib.ListN.{length, take}
 use Rattle.term.specs.declared.parts.Side.the-variants.{Left}

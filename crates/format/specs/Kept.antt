@@ -1,12 +1,12 @@
 -- What a file says as the reader keeps it, in the words that it is lent: declarations, two terms, steps.
 use mathlib.Core.List.{List, [], _∷_, _++_}
-use Prim.Native.Nat.{ℕ, _+_, _-_, _*_}
+use Prim.Native.Nat.{ℕ, _+_, _-_}
 use lib.ListN.{length, replicate}
 use Rattle.term.specs.Terms.{maxWords}
 use Rattle.declarations.specs.Declarations.{size}
 use Rattle.declarations.specs.Put.{started, basisPut, variablePut}
 use Rattle.rules.specs.Steps.{Move}
-use Rattle.lent.specs.Lent.{stepPut, stepWords, maxSteps}
+use Rattle.lent.specs.Lent.{stepPut}
 use Rattle.format.specs.Files.{Variable, File}
 
 -- ---- declarations, put one after the other

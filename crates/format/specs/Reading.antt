@@ -1,5 +1,5 @@
 -- How a file is read: a walk over its lines, up to the first fault. Document 01: "Codes 2, 3 come first, then the file by lines (in a line 4, 6, 5, then 7, 8 or 9)".
-use mathlib.Core.Bool.{Bool, true, false, cond, _||_}
+use mathlib.Core.Bool.{Bool, false, cond, _||_}
 use mathlib.Core.List.{List, [], _∷_, _++_}
 use mathlib.Core.Option.{Option, some, none}
 use Prim.Native.Nat.{ℕ, _+_}

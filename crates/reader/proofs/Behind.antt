@@ -1,15 +1,14 @@
 -- The tokens behind a letter, and a term in its slice.
 use mathlib.Core.Path.{_≡_, refl, sym, _∙_, ap}
 use mathlib.Core.Logic.{_≢_}
-use mathlib.Core.Bool.{Bool, true, false, cond}
+use mathlib.Core.Bool.{Bool, true, false}
 use mathlib.Core.List.{List, [], _∷_}
-use mathlib.Core.Option.{Option, some, none}
-use Prim.Native.Nat.{ℕ, _+_, _-_, _≤_, _<_}
+use mathlib.Core.Option.{some, none}
+use Prim.Native.Nat.{ℕ, _-_, _≤_}
 use native.Mathlib.Omega.{arith}
 use borrow.Author.Tests.{eq-eqb, ne-eqb, leb-true, leb-false}
 use lib.Dec.{leb}
 use lib.ListN.{length, take, drop, getD, replicate, length-replicate}
-use lib.Seq.{drop-cons}
 use Rattle.words.specs.Words.{cleared}
 use Rattle.words.proofs.Runs.{to-end}
 use Rattle.term.specs.declared.terms.Names.{Names}
@@ -20,14 +19,12 @@ use Rattle.text.specs.declared.tokens.Tokens.{Tokens}
 use Rattle.text.specs.declared.tokens.Tokens.the-variants.{Count, Malformed}
 use Rattle.text.specs.Pieces.{Text, space, parted}
 use Rattle.text.specs.Tokens.{tokensIn, toldTokens, stored}
-use Rattle.text.proofs.Told.{no-tokens, some-words}
 use Rattle.format.specs.Files.{File, namesOf}
-use Rattle.format.specs.Reading.{Line, wrong, good, wordsBehind, takeTerm}
+use Rattle.format.specs.Reading.{wordsBehind, takeTerm}
 use Rattle.format.specs.Kept.{declarationsOf, padded}
 use Rattle.format.specs.Files.{Sound}
 use Rattle.format.proofs.Declared.{names-declared}
-use Rattle.format.proofs.Padded.{stored-front, stored-words, stored-size, padded-none, padded-size}
-use Rattle.reader.specs.declared.faults.Fault.{Fault}
+use Rattle.format.proofs.Padded.{stored-front, stored-words, stored-size}
 use Rattle.reader.specs.declared.terms.Term.{Term}
 use Rattle.reader.specs.Code.Lines.{fault, faultOf, Placed}
 

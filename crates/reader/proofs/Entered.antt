@@ -1,7 +1,7 @@
 -- The entry: codes 1, 2 and 3, and the words that a fault or a file leaves.
 use mathlib.Core.Path.{_≡_, refl, sym, _∙_, ap}
 use mathlib.Core.Logic.{_≢_}
-use mathlib.Core.Bool.{Bool, true, false, cond, _&&_, and-eq-true-iff}
+use mathlib.Core.Bool.{true, false, and-eq-true-iff}
 use mathlib.Core.List.{List}
 use Prim.Native.Nat.{ℕ, _≤_, _<_}
 use native.Mathlib.Omega.{arith}
@@ -15,7 +15,6 @@ use Rattle.text.specs.Bytes.{badLine}
 use Rattle.text.specs.Pieces.{Text, linesOf}
 use Rattle.format.specs.Files.{File, maxBytes}
 use Rattle.format.specs.Reading.{Reading, fault, read, readFrom, nothing, readOf}
-use Rattle.format.specs.Kept.{stepsSize, declarationsOf, padded, stepsOf}
 use Rattle.format.proofs.Codes.{fault-code}
 use Rattle.reader.specs.declared.files.Read.{Read}
 use Rattle.reader.specs.Answers.{refusal, answerOf, slice, sized, readAnswer, after}

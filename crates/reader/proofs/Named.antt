@@ -1,14 +1,14 @@
 -- A line that declares: what the code answers to it, and the declarations that it leaves.
-use mathlib.Core.Path.{_≡_, refl, sym, _∙_, ap}
+use mathlib.Core.Path.{_≡_, refl, sym, _∙_}
 use mathlib.Core.Logic.{_≢_}
-use mathlib.Core.Bool.{Bool, true, false, cond, not, _&&_}
-use mathlib.Core.List.{List, [], _∷_, _++_}
+use mathlib.Core.Bool.{Bool, true, false, cond, not}
+use mathlib.Core.List.{List, [], _∷_}
 use mathlib.Core.Option.{Option, some, none}
-use Prim.Native.Nat.{ℕ, _+_, _-_, _≤_, _<_}
+use Prim.Native.Nat.{ℕ, _-_, _≤_, _<_}
 use native.Mathlib.Omega.{arith}
-use borrow.Author.Tests.{eq-eqb, ne-eqb, le-leb, lt-leb, eqb-true}
+use borrow.Author.Tests.{eq-eqb, ne-eqb, le-leb}
 use lib.Dec.{eqb}
-use lib.ListN.{length, take, drop, getD, set, replicate, length-replicate, length-append, length-take, length-drop}
+use lib.ListN.{length, take, drop, getD, replicate, length-replicate, length-take, length-drop}
 use Rattle.words.specs.Words.{cleared}
 use Rattle.words.proofs.Runs.{to-end}
 use Rattle.term.specs.Parts.{part}
@@ -25,7 +25,7 @@ use Rattle.format.specs.Files.{Variable, File, Basis, Var}
 use Rattle.format.specs.Reading.{Line, wrong, good, full, takeTypes, takeBasis, takeVariable, andBasis, andVariable, variableOf, variableIn, wordsBehind, kindOf}
 use Rattle.format.specs.Kept.{putBases, putVariables, declarationsOf}
 use Rattle.format.specs.Files.{Sound}
-use Rattle.format.proofs.Declared.{declared, declared-size, room-bases, full-bases, room-variables, full-variables, bases-more, variables-more}
+use Rattle.format.proofs.Declared.{declared, room-bases, room-variables, bases-more, variables-more}
 use Rattle.reader.specs.declared.faults.Fault.{Fault}
 use Rattle.reader.specs.Code.Lines.{fault, faultOf, Put, putFault, kindNumber, PutWords}
 

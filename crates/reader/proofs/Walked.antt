@@ -1,12 +1,11 @@
 -- The walk over the lines: what is left of the reading is the reading of the lines from the cursor on.
 use mathlib.Core.Path.{_≡_, refl, sym, _∙_, ap}
 use mathlib.Core.Logic.{_≢_}
-use mathlib.Core.Bool.{Bool, true, false, cond, and-eq-true-iff}
+use mathlib.Core.Bool.{true, false, and-eq-true-iff}
 use mathlib.Core.List.{List, [], _∷_, _++_}
 use Prim.Native.Nat.{ℕ, _+_, _-_, _≤_, _<_}
 use native.Mathlib.Omega.{arith}
 use borrow.Author.Tests.{eq-eqb, ne-eqb}
-use lib.Dec.{eqb}
 use lib.ListN.{length, take, drop, replicate, length-append, length-drop, drop-of-length-le}
 use lib.Seq.{take-at, drop-drop, drop-append-add}
 use Rattle.bytes.specs.Bytes.{indexOf}
@@ -16,7 +15,7 @@ use Rattle.text.proofs.Cutting.{lacks, allLack, index-lacks, lines-lack, ended-
 use Rattle.format.specs.Files.{File}
 use Rattle.format.specs.Reading.{Line, wrong, good, lineOf, Reading, onLine, keyOf, stageAfter, readFrom, nothing}
 use Rattle.format.specs.Reading as R
-use Rattle.format.specs.Kept.{stepsSize, declarationsOf, padded, putSteps, stepsOf}
+use Rattle.format.specs.Kept.{stepsSize, putSteps, stepsOf}
 use Rattle.format.proofs.Codes.{Marked, marked, line}
 use Rattle.format.proofs.Reached.{start}
 use Rattle.lent.specs.Lent.{maxSteps}

@@ -6,7 +6,6 @@ use lib.Dec.{eqb}
 use lib.ListN.{length, replicate}
 use Rattle.term.specs.Terms.{maxWords}
 use Rattle.declarations.specs.Declarations.{size}
-use Rattle.text.specs.Pieces.{Text}
 use Rattle.format.specs.Files.{File}
 use Rattle.format.specs.Reading.{Reading, fault, read, readOf}
 use Rattle.format.specs.Kept.{stepsSize, declarationsOf, padded, stepsOf}

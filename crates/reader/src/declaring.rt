@@ -22,7 +22,7 @@ ghost use Rattle.term.specs.Terms.{maxNames};
 ghost use Rattle.text.specs.Numbers.{atMost};
 ghost use Rattle.text.specs.Tokens.{tokensIn, toldTokens};
 ghost use Rattle.format.specs.Files.{File, Basis, Var, Sound};
-ghost use Rattle.format.specs.Reading.{wrong, full, kindOf, wordsBehind, variableIn, variableOf, takeTypes, takeBasis, takeVariable};
+ghost use Rattle.format.specs.Reading.{wrong, full, kindOf, wordsBehind, variableIn, takeTypes, takeBasis, takeVariable};
 ghost use Rattle.format.specs.Kept.{declarationsOf};
 ghost use Rattle.reader.specs.Code.Lines as L;
 ghost use Rattle.reader.specs.Code.Lines.{putFault, kindNumber};

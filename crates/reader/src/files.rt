@@ -13,7 +13,7 @@ ghost use Rattle.text.specs.Bytes.{badLine};
 ghost use Rattle.text.specs.Pieces.{linesOf};
 ghost use Rattle.format.specs.Reading.{readFrom, nothing, readOf};
 ghost use Rattle.format.specs.Kept.{stepsSize};
-ghost use Rattle.reader.specs.Answers.{refusal, sized, answerOf, readAnswer, declarationsAfter, leftAfter, rightAfter, stepsAfter};
+ghost use Rattle.reader.specs.Answers.{refusal, sized, readAnswer, declarationsAfter, leftAfter, rightAfter, stepsAfter};
 ghost use Rattle.reader.specs.Code.Holding.{Found};
 
 // A code with its line; or what was read, with code 0: the lengths of the two terms, and how many steps there are.

@@ -1,14 +1,13 @@
 -- What the code finds of a token and of a row of them, and what the definition says.
-use mathlib.Core.Path.{_≡_, refl, sym, _∙_}
+use mathlib.Core.Path.{_≡_, refl, _∙_}
 use mathlib.Core.Logic.{_≢_}
-use mathlib.Core.Bool.{Bool, true, false, cond, not, _||_}
+use mathlib.Core.Bool.{Bool, true, false}
 use mathlib.Core.List.{List, [], _∷_}
 use mathlib.Core.Option.{Option, some, none, Option·elim}
-use Prim.Native.Nat.{ℕ, zero, suc, _+_, _-_, _*_, _≤_, _<_}
-use native.Mathlib.Numerals.{add-one}
+use Prim.Native.Nat.{ℕ, suc, _+_, _-_, _*_, _≤_, _<_}
 use native.Mathlib.Omega.{arith}
 use borrow.Author.Tests.{lt-ltb, le-ltb, ltb-true, ltb-false, le-leb, lt-leb, eqb-true, eqb-false}
-use lib.Dec.{eqb, ltb, leb}
+use lib.Dec.{eqb, ltb}
 use lib.ListN.{length, take, drop, set, length-drop}
 use lib.Seq.{take-all, drop-drop}
 use Rattle.words.proofs.Runs.{to-end}
@@ -19,7 +18,7 @@ use Rattle.text.specs.declared.tokens.Tokens.{Tokens}
 use Rattle.text.specs.declared.tokens.Tokens.the-variants.{Count, Malformed}
 use Rattle.text.specs.Numbers.{atMost}
 use Rattle.text.specs.Pieces.{Text, space, colon, parted, pieceEnd, fieldsFrom}
-use Rattle.text.specs.Tokens.{isLabelled, known, carries, bare, paired, tokenIn, both, wordsOf, tokensIn, toldTokens, stored}
+use Rattle.text.specs.Tokens.{isLabelled, known, carries, bare, paired, tokenIn, both, wordsOf, toldTokens, stored}
 use Rattle.text.proofs.Cutting.{index-within, pieces-more, pieces-last}
 
 -- ---- a known word

@@ -2,8 +2,6 @@
 use bytes::scan::find;
 ghost use mathlib.Core.Path.{_≡_};
 ghost use mathlib.Core.Bool.{false};
-ghost use lib.ListN.{length, take};
-ghost use Rattle.words.specs.Words.{sameWords};
 ghost use Rattle.text.specs.Bytes.{printable, badLine};
 ghost use Rattle.text.specs.Pieces.{pieceEnd, starts};
 

@@ -6,10 +6,9 @@ use term::heads::Arity;
 use term::heads::arity_of;
 ghost use mathlib.Core.Path.{_≡_};
 ghost use mathlib.Core.Option.{some};
-ghost use Prim.Native.Nat.{_+_, _*_, _≤_, _<_};
-ghost use lib.ListN.{length};
+ghost use Prim.Native.Nat.{_+_, _*_, _<_};
 ghost use Rattle.text.specs.Numbers.{atMost};
-ghost use Rattle.text.specs.Pieces.{parted, fieldsFrom, space};
+ghost use Rattle.text.specs.Pieces.{parted, space};
 ghost use Rattle.text.specs.Tokens.{known, bare, paired, toldPart, tokenIn, tokensIn, toldToken, toldTokens, stored};
 
 // A token's word.

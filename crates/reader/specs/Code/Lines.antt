@@ -3,7 +3,7 @@ use mathlib.Core.Path.{_≡_}
 use mathlib.Core.Bool.{true, cond}
 use mathlib.Core.List.{List, [], _∷_}
 use mathlib.Core.Option.{Option, some, none}
-use Prim.Native.Nat.{ℕ, _+_, _≤_, _<_}
+use Prim.Native.Nat.{ℕ, _+_, _≤_}
 use lib.Dec.{eqb}
 use lib.ListN.{length, take, drop, getD}
 use Rattle.term.specs.declared.parts.Side.{Side}
@@ -18,7 +18,7 @@ use Rattle.text.specs.Numbers.{atMost}
 use Rattle.text.specs.Tokens.{tokensIn}
 use Rattle.format.specs.Files.{File, namesOf, maxField}
 use Rattle.format.specs.Reading.{Line, wrong, good, takeTerm, sideIn}
-use Rattle.format.specs.Kept.{declarationsOf, padded, stepsOf}
+use Rattle.format.specs.Kept.{padded}
 use Rattle.reader.specs.declared.faults.Fault.{Fault}
 use Rattle.reader.specs.declared.terms.Term.{Term}
 use Rattle.reader.specs.declared.stepping.Sided.{Sided}

@@ -2,7 +2,6 @@
 use borrow.Author.Tests.{ne-eqb}
 use Rattle.reader.specs.Code.Lines.{kindNumber}
 use Rattle.format.specs.Reading.{kindOf}
-use borrow.Author.Needs.{needs}
 use Rattle.reader.proofs.declaring.kind_of.Statement.{statement}
 use Rattle.reader.proofs.declaring.kind_of.Tie as tie
 

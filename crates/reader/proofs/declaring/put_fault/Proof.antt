@@ -1,5 +1,5 @@
 -- A code for each answer.
-use mathlib.Core.Path.{_≡_, refl, sym, _∙_}
+use mathlib.Core.Path.{_∙_}
 use Rattle.reader.specs.Code.Lines.{putFault}
 use borrow.Author.Needs.{needs}
 use Rattle.reader.proofs.declaring.put_fault.Statement.{statement}

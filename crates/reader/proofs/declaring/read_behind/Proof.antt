@@ -1,6 +1,5 @@
 -- Nothing, or a space and tokens.
-use mathlib.Core.Path.{_≡_, refl, sym, _∙_, ap}
-use native.Mathlib.Omega.{arith}
+use mathlib.Core.Path.{refl, _∙_, ap}
 use Rattle.reader.proofs.Behind.{behind-none, behind-unspaced, behind-tokens}
 use lib.ListN.{length}
 use Rattle.format.proofs.Padded.{stored-size}

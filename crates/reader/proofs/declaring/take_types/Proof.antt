@@ -1,5 +1,5 @@
 -- A number up to 32, and declarations that begin with it.
-use mathlib.Core.Path.{_≡_, refl, sym, _∙_}
+use mathlib.Core.Path.{refl, sym, _∙_}
 use native.Mathlib.Omega.{arith}
 use Rattle.text.proofs.Told.{none-limited, over-limit, in-limit}
 use Rattle.reader.proofs.Named.{wrong-line, no-types, types-line}

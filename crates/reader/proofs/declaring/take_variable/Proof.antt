@@ -1,5 +1,5 @@
 -- There is room, the letter and the tokens are of the form, and what is put fits.
-use mathlib.Core.Path.{_≡_, refl, sym, _∙_, ap}
+use mathlib.Core.Path.{_≡_, refl, sym, _∙_}
 use Prim.Native.Nat.{_≤_}
 use native.Mathlib.Omega.{arith}
 use Rattle.text.proofs.Told.{no-tokens, some-words}

@@ -1,7 +1,6 @@
 -- One size after the other.
 use borrow.Author.Tests.{eq-eqb, ne-eqb}
 use Rattle.reader.specs.Answers.{sized}
-use borrow.Author.Needs.{needs}
 use Rattle.reader.proofs.files.are_sized.Statement.{statement}
 use Rattle.reader.proofs.files.are_sized.Tie as tie
 

@@ -1,6 +1,5 @@
 -- 1, then the reading, and zeros behind a fault.
-use mathlib.Core.Path.{_≡_, refl, sym, _∙_, ap}
-use native.Mathlib.Omega.{arith}
+use mathlib.Core.Path.{sym, _∙_}
 use borrow.Author.Tests.{not-true, not-false}
 use Rattle.format.specs.Kept.{declarationsOf, padded, stepsOf}
 use Rattle.reader.proofs.Entered.{all-sized, unsized-answer, unsized-words, sized-answer, fault-words, file-words}

@@ -1,5 +1,4 @@
 -- The fault that was made.
-use mathlib.Core.Path.{_≡_, refl, sym, _∙_}
 use borrow.Author.Needs.{needs}
 use Rattle.reader.proofs.terms.no_term.Statement.{statement}
 use Rattle.reader.proofs.terms.no_term.Tie as tie

@@ -1,6 +1,5 @@
 -- The tokens are of the form, and their words a term.
-use mathlib.Core.Path.{_≡_, refl, sym, _∙_, ap}
-use native.Mathlib.Omega.{arith}
+use mathlib.Core.Path.{refl, sym, _∙_, ap}
 use Rattle.text.proofs.Told.{no-tokens, some-words}
 use borrow.Author.Tests.{not-true, not-false}
 use lib.ListN.{length}

@@ -1,5 +1,5 @@
 -- The tests in their order, and the line of the key.
-use mathlib.Core.Path.{_≡_, refl, sym, _∙_, ap}
+use mathlib.Core.Path.{refl}
 use native.Mathlib.Omega.{arith}
 use Rattle.format.specs.Files.{Types, Basis, Var, LeftTerm, RightTerm, Step, End, Other, keyText}
 use Rattle.reader.proofs.Keys.{starts-told, starts-within, key-types, key-basis, key-variable, key-left, key-right, key-step, key-end, key-other, line-by}

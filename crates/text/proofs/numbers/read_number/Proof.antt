@@ -1,6 +1,6 @@
 -- The invariant: what is to be known of all bytes is still to be known of those from `i` on; `value` is the number so far, cut off above 65,535.
 use mathlib.Core.Path.{_≡_, refl, sym, _∙_}
-use Prim.Native.Nat.{ℕ, _-_, _≤_, min}
+use Prim.Native.Nat.{ℕ, _-_, min}
 use native.Mathlib.Omega.{arith}
 use borrow.Author.Tests.{not-true, not-false}
 use lib.ListN.{length, drop}

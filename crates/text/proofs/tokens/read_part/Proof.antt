@@ -1,5 +1,5 @@
 -- A number, and its limit.
-use mathlib.Core.Path.{_≡_, refl, sym, _∙_}
+use mathlib.Core.Path.{sym, _∙_}
 use native.Mathlib.Omega.{arith}
 use Rattle.text.specs.Tokens.{toldPart}
 use Rattle.text.proofs.Told.{none-limited, over-limit, in-limit}

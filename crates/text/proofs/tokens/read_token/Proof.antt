@@ -1,5 +1,5 @@
 -- The head, and what stands behind the colon if there is one.
-use mathlib.Core.Path.{_≡_, refl, sym, _∙_}
+use mathlib.Core.Path.{sym, _∙_}
 use native.Mathlib.Omega.{arith}
 use Rattle.text.specs.Tokens.{toldToken}
 use lib.Seq.{length-take-le}
