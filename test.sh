@@ -12,4 +12,5 @@ checker/compare.sh typing 1 10000
 checker/compare.sh step 1 10000
 checker/compare.sh run 1 10000
 checker/compare.sh replay 1 10000
+examples/test.sh
 tail -n 1 "$log"
