@@ -1,6 +1,7 @@
 #!/usr/bin/env bash
 # All tests, from nothing: the checker's, then every proof, every edit that must be refused, every program against its stored output, then the
-# proved typing, the proved step, the proved run and the proved replay against the checker's on random cases.
+# proved typing, the proved step, the proved run and the proved replay against the checker's on random cases; the examples; the library from C
+# and from Rust, and on random files beside the checker in one process.
 set -euo pipefail
 cd "$(dirname "$0")"
 (cd checker && cargo test --release --offline)
@@ -12,5 +13,11 @@ checker/compare.sh typing 1 10000
 checker/compare.sh step 1 10000
 checker/compare.sh run 1 10000
 checker/compare.sh replay 1 10000
+for file in checker/vectors/replay/*.in; do
+    target/bin/replay < "$file" | cmp - "${file%.in}.out"
+done
 examples/test.sh
+rt staticlib library
+bindings/test.sh
+cargo run --release --offline --quiet --manifest-path bench/Cargo.toml --bin scale -- 1 20000
 tail -n 1 "$log"

@@ -1,0 +1,165 @@
+//! `batch [--json] [--only SUFFIX] PATH..`: replays files, and the files of folders, in the same two work slices. Progress goes to standard
+//! error; what was refused and why, in words, to standard output, with a summary; with `--json` a line a file instead. With `--only` a
+//! folder's files count only where their names end so. The exit status is 0 only if every file was accepted; files that cannot be read are
+//! named and counted.
+
+use fejogbu::{replay, Answer, Code, Work};
+use std::fs;
+use std::io::{IsTerminal, Read, Write};
+use std::path::{Path, PathBuf};
+use std::process::ExitCode;
+
+/// One byte more than a file may have tells that it is too long.
+const MOST_BYTES: u64 = 65_537;
+
+/// What was asked for.
+#[derive(Default)]
+struct Asked {
+    json: bool,
+    only: String,
+    paths: Vec<PathBuf>,
+}
+
+fn asked(mut words: impl Iterator<Item = String>) -> Option<Asked> {
+    let mut asked = Asked::default();
+    while let Some(word) = words.next() {
+        match word.as_str() {
+            "--json" => asked.json = true,
+            "--only" => asked.only = words.next()?,
+            _ if word.starts_with("--") => return None,
+            _ => asked.paths.push(word.into()),
+        }
+    }
+    (!asked.paths.is_empty()).then_some(asked)
+}
+
+/// The files that a path stands for: itself, or those of a folder and of the folders in it whose names end so, in their order.
+fn files_under(path: &Path, only: &str, found: &mut Vec<PathBuf>) {
+    let Ok(entries) = fs::read_dir(path) else {
+        found.push(path.to_path_buf());
+        return;
+    };
+    let mut paths: Vec<PathBuf> = entries.flatten().map(|entry| entry.path()).collect();
+    paths.retain(|path| path.is_dir() || path.to_string_lossy().ends_with(only));
+    paths.sort();
+    for path in paths {
+        files_under(&path, only, found);
+    }
+}
+
+fn read(path: &Path) -> std::io::Result<Vec<u8>> {
+    let mut bytes = Vec::new();
+    fs::File::open(path)?.take(MOST_BYTES).read_to_end(&mut bytes)?;
+    Ok(bytes)
+}
+
+fn quoted(text: &str) -> String {
+    let mut out = String::from('"');
+    for c in text.chars() {
+        match c {
+            '"' | '\\' => out.extend(['\\', c]),
+            c if (c as u32) < 32 => out += &format!("\\u{:04x}", c as u32),
+            c => out.push(c),
+        }
+    }
+    out.push('"');
+    out
+}
+
+/// The rule of a file's step, counted from 1, as its line names it.
+fn rule_of(file: &[u8], step: usize) -> Option<u16> {
+    let lines = file.split(|&byte| byte == b'\n').filter(|line| line.starts_with(b"step="));
+    let line = std::str::from_utf8(lines.skip(step.checked_sub(1)?).next()?).ok()?;
+    line.split(' ').nth(1)?.parse().ok()
+}
+
+/// What a replay answers, and the same in words.
+struct Told {
+    answer: Answer,
+    words: String,
+}
+
+fn told(path: &Path, work: &mut Work) -> Result<Told, String> {
+    let file = read(path).map_err(|e| e.to_string())?;
+    let answer = replay(&file, work);
+    let words = answer.told(rule_of(&file, answer.step));
+    Ok(Told { answer, words })
+}
+
+fn json(path: &Path, answer: &Result<Told, String>) -> String {
+    let file = quoted(&path.to_string_lossy());
+    match answer {
+        Ok(Told { answer: a, words }) => format!(
+            r#"{{"file":{file},"code":{},"side":{},"step":{},"at":{},"left":{},"right":{},"words":{}}}"#,
+            a.code.number(), a.side.map_or(0, |side| side.number()), a.step, a.at, a.left, a.right, quoted(words)
+        ),
+        Err(why) => format!(r#"{{"file":{file},"unreadable":{}}}"#, quoted(why)),
+    }
+}
+
+fn progress(done: usize, all: usize) {
+    if std::io::stderr().is_terminal() && (done % 100 == 0 || done == all) {
+        eprint!("\r{done} of {all} files");
+        if done == all {
+            eprintln!();
+        }
+        let _ = std::io::stderr().flush();
+    }
+}
+
+/// How many files there were of each kind.
+#[derive(Default)]
+struct Counts {
+    accepted: usize,
+    refused: usize,
+    unreadable: usize,
+}
+
+impl Counts {
+    /// Counts a file, and has a line for one that was not accepted.
+    fn add(&mut self, path: &Path, answer: &Result<Told, String>) -> Option<String> {
+        let path = path.display();
+        match answer {
+            Ok(t) if t.answer.code == Code::Accepted => {
+                self.accepted += 1;
+                None
+            }
+            Ok(t) => {
+                self.refused += 1;
+                Some(format!("{path}\t{}\t{}", t.answer.code.number(), t.words))
+            }
+            Err(why) => {
+                self.unreadable += 1;
+                Some(format!("{path}\tunreadable\t{why}"))
+            }
+        }
+    }
+}
+
+fn main() -> ExitCode {
+    let Some(asked) = asked(std::env::args().skip(1)) else {
+        eprintln!("usage: batch [--json] [--only SUFFIX] PATH..   (a path is a file or a folder)");
+        return ExitCode::from(2);
+    };
+    let mut files = Vec::new();
+    for path in &asked.paths {
+        files_under(path, &asked.only, &mut files);
+    }
+    let mut work = Work::new();
+    let mut counts = Counts::default();
+    for (k, path) in files.iter().enumerate() {
+        let answer = told(path, &mut work);
+        let line = counts.add(path, &answer);
+        if asked.json {
+            println!("{}", json(path, &answer));
+        } else if let Some(line) = line {
+            println!("{line}");
+        }
+        progress(k + 1, files.len());
+    }
+    let Counts { accepted, refused, unreadable } = counts;
+    if !asked.json {
+        println!("{} files: {accepted} accepted, {refused} refused, {unreadable} unreadable", files.len());
+    }
+    if refused + unreadable == 0 { ExitCode::SUCCESS } else { ExitCode::FAILURE }
+}

@@ -1,0 +1,132 @@
+//! The four functions of the library. Every slice that is handed over is of the length that is said, and those that are written are lent to nobody else meanwhile: that is all that the
+//! library asks of its caller.
+use crate::outside;
+use crate::{
+    Answer, Code, Declarations, Kind, Side, Step, Stepped, Steps, Term, Typing, Work, INDEX,
+};
+
+fn written(returned: u64) {
+    assert_eq!(returned, 0, "the slices for the answer are of their size");
+}
+
+/// Replays the bytes of a derivation's file. What stood in the work slices before does not matter; they are left with the two terms as the answer says, and zeros behind.
+pub fn replay(bytes: &[u8], work: &mut Work) -> Answer {
+    let Work { left, right } = work;
+    let mut numbers = [0; 6];
+    written(unsafe {
+        outside::fejogbu_replay(
+            bytes.as_ptr(),
+            bytes.len(),
+            left.slice.as_mut_ptr(),
+            left.slice.len(),
+            right.slice.as_mut_ptr(),
+            right.slice.len(),
+            numbers.as_mut_ptr(),
+            numbers.len(),
+        )
+    });
+    settled(numbers, work)
+}
+
+/// Takes the steps on the two terms in the work slices, up to the first bad one, and compares the ends.
+pub fn run(declarations: &Declarations, work: &mut Work, steps: &Steps) -> Answer {
+    let Work { left, right } = work;
+    let mut numbers = [0; 6];
+    written(unsafe {
+        outside::fejogbu_run(
+            declarations.words().as_ptr(),
+            declarations.words().len(),
+            left.slice.as_mut_ptr(),
+            left.slice.len(),
+            left.length,
+            right.slice.as_mut_ptr(),
+            right.slice.len(),
+            right.length,
+            steps.words().as_ptr(),
+            steps.words().len(),
+            steps.count(),
+            numbers.as_mut_ptr(),
+            numbers.len(),
+        )
+    });
+    settled(numbers, work)
+}
+
+/// The answer, with the lengths that it gives the two terms.
+fn settled(numbers: [u64; 6], work: &mut Work) -> Answer {
+    let answer = Answer::of(numbers);
+    work.left.length = answer.left;
+    work.right.length = answer.right;
+    answer
+}
+
+/// Takes one step of a term.
+pub fn step(declarations: &Declarations, term: &mut Term, step: Step) -> Stepped {
+    let mut numbers = [0; 5];
+    written(unsafe {
+        outside::fejogbu_step(
+            declarations.words().as_ptr(),
+            declarations.words().len(),
+            term.slice.as_mut_ptr(),
+            term.slice.len(),
+            term.length,
+            step.rule,
+            step.place,
+            step.i,
+            step.j,
+            numbers.as_mut_ptr(),
+            numbers.len(),
+        )
+    });
+    let [code, side, step, at, length] = numbers;
+    term.length = length as usize;
+    Stepped {
+        code: Code::of(code),
+        side: Side::of(side),
+        step: step as usize,
+        at: at as usize,
+        length: length as usize,
+    }
+}
+
+/// Finds the type of a term, which it leaves as it is.
+pub fn typing(declarations: &Declarations, term: &Term) -> Typing {
+    let mut numbers = [0; 9];
+    let mut rows = [0; INDEX];
+    let mut columns = [0; INDEX];
+    written(unsafe {
+        outside::fejogbu_typing(
+            declarations.words().as_ptr(),
+            declarations.words().len(),
+            term.slice.as_ptr(),
+            term.slice.len(),
+            term.length,
+            numbers.as_mut_ptr(),
+            numbers.len(),
+            rows.as_mut_ptr(),
+            rows.len(),
+            columns.as_mut_ptr(),
+            columns.len(),
+        )
+    });
+    let [code, side, step, at, length, depth, kind, n, m] = numbers;
+    Typing {
+        code: Code::of(code),
+        side: Side::of(side),
+        step: step as usize,
+        at: at as usize,
+        length: length as usize,
+        depth: depth as usize,
+        kind: kind_of(kind, &rows[..n as usize], &columns[..m as usize]),
+    }
+}
+
+fn kind_of(number: u64, rows: &[u16], columns: &[u16]) -> Kind {
+    match number {
+        0 => Kind::Scalar,
+        1 => Kind::Ket(rows.to_vec()),
+        2 => Kind::Bra(columns.to_vec()),
+        3 => Kind::Operator(rows.to_vec(), columns.to_vec()),
+        _ => unreachable!("a type is of one of four kinds"),
+    }
+}

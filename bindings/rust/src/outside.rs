@@ -1,0 +1,158 @@
+//! The functions of the static library, as `include/fejogbu.h` has them. A slice is a pointer and a number of items.
+extern "C" {
+    pub fn fejogbu_replay(
+        bytes: *const u8,
+        bytes_size: usize,
+        left: *mut u16,
+        left_size: usize,
+        right: *mut u16,
+        right_size: usize,
+        answer: *mut u64,
+        answer_size: usize,
+    ) -> u64;
+    pub fn fejogbu_run(
+        declarations: *const u16,
+        declarations_size: usize,
+        left: *mut u16,
+        left_size: usize,
+        n: usize,
+        right: *mut u16,
+        right_size: usize,
+        m: usize,
+        steps: *const u16,
+        steps_size: usize,
+        count: usize,
+        answer: *mut u64,
+        answer_size: usize,
+    ) -> u64;
+    pub fn fejogbu_step(
+        declarations: *const u16,
+        declarations_size: usize,
+        term: *mut u16,
+        term_size: usize,
+        n: usize,
+        rule: u16,
+        place: u16,
+        i: u16,
+        j: u16,
+        answer: *mut u64,
+        answer_size: usize,
+    ) -> u64;
+    pub fn fejogbu_typing(
+        declarations: *const u16,
+        declarations_size: usize,
+        term: *const u16,
+        term_size: usize,
+        n: usize,
+        answer: *mut u64,
+        answer_size: usize,
+        rows: *mut u16,
+        rows_size: usize,
+        columns: *mut u16,
+        columns_size: usize,
+    ) -> u64;
+    pub fn fejogbu_start_declarations(
+        declarations: *mut u16,
+        declarations_size: usize,
+        types: usize,
+    ) -> u64;
+    pub fn fejogbu_put_basis(
+        declarations: *mut u16,
+        declarations_size: usize,
+        index: *const u16,
+        index_size: usize,
+    ) -> u64;
+    pub fn fejogbu_put_variable(
+        declarations: *mut u16,
+        declarations_size: usize,
+        kind: u16,
+        first: *const u16,
+        first_size: usize,
+        second: *const u16,
+        second_size: usize,
+    ) -> u64;
+    pub fn fejogbu_put_step(
+        steps: *mut u16,
+        steps_size: usize,
+        k: usize,
+        side: u16,
+        rule: u16,
+        place: u16,
+        i: u16,
+        j: u16,
+    ) -> u64;
+}
+
+#[cfg(test)]
+mod tests {
+    use super::*;
+
+    /// An answer's slice of another size is refused, and nothing is touched: not the answer, not the work slices.
+    #[test]
+    fn a_slice_of_another_size_is_refused() {
+        let mut left = [7u16; 4096];
+        let mut right = [8u16; 4096];
+        for size in [0, 1, 5, 7, 12] {
+            let mut answer = vec![9u64; size];
+            let text = b"types=0\nleft=5\nright=5\nend=0\n";
+            let returned = unsafe {
+                fejogbu_replay(
+                    text.as_ptr(),
+                    text.len(),
+                    left.as_mut_ptr(),
+                    left.len(),
+                    right.as_mut_ptr(),
+                    right.len(),
+                    answer.as_mut_ptr(),
+                    size,
+                )
+            };
+            assert_eq!(returned, 1);
+            assert!(answer.iter().all(|&n| n == 9));
+            assert!(left.iter().all(|&w| w == 7) && right.iter().all(|&w| w == 8));
+        }
+    }
+
+    /// A work slice of another size is code 1, and it is untouched.
+    #[test]
+    fn a_work_slice_of_another_size_is_code_1() {
+        let mut left = [7u16; 4095];
+        let mut right = [8u16; 4096];
+        let mut answer = [9u64; 6];
+        let text = b"types=0\nleft=5\nright=5\nend=0\n";
+        let returned = unsafe {
+            fejogbu_replay(
+                text.as_ptr(),
+                text.len(),
+                left.as_mut_ptr(),
+                left.len(),
+                right.as_mut_ptr(),
+                right.len(),
+                answer.as_mut_ptr(),
+                answer.len(),
+            )
+        };
+        assert_eq!((returned, answer), (0, [1, 0, 0, 0, 0, 0]));
+        assert!(left.iter().all(|&w| w == 7) && right.iter().all(|&w| w == 8));
+    }
+
+    /// A side that is neither 1 nor 2, a step past the slice and a step past the thousandth are not put.
+    #[test]
+    fn a_step_is_put_or_nothing_is_changed() {
+        let mut steps = [5u16; 16];
+        let mut put = |k, side| unsafe {
+            (
+                fejogbu_put_step(steps.as_mut_ptr(), 16, k, side, 71, 1, 2, 3),
+                steps,
+            )
+        };
+        assert_eq!(put(0, 0), (0, [5; 16]));
+        assert_eq!(put(0, 3), (0, [5; 16]));
+        assert_eq!(put(2, 1), (0, [5; 16]));
+        assert_eq!(put(1000, 1), (0, [5; 16]));
+        assert_eq!(
+            put(1, 2),
+            (1, [5, 5, 5, 5, 5, 5, 5, 5, 2, 71, 1, 2, 3, 0, 0, 0])
+        );
+    }
+}

@@ -1,0 +1,376 @@
+//! The scope's derivation and its damaged copies, through each function.
+use fejogbu::{
+    replay, run, step, typing, word, Answer, Code, Declarations, Kind, Outcome, Refused, Side,
+    Step, Steps, Term, Variable, Work,
+};
+
+const SESSION: &str = "types=1\nbasis=1:0\nvar=O 1:0 1:0\nleft=22 18 15 1:0 16 3:0\nright=16 3:0\nstep=L 71 1 0 0\nstep=L 102 0 0 0\nend=2\n";
+
+const TYPE: u16 = word(1, 0);
+const BASIS: u16 = word(3, 0);
+const LEFT: [u16; 6] = [
+    word(22, 0),
+    word(18, 0),
+    word(15, 0),
+    TYPE,
+    word(16, 0),
+    BASIS,
+];
+const BETWEEN: [u16; 5] = [word(22, 0), word(15, 0), TYPE, word(16, 0), BASIS];
+const RIGHT: [u16; 2] = [word(16, 0), BASIS];
+
+/// The session's declarations.
+fn declarations() -> Declarations {
+    let mut declared = Declarations::of_types(1).unwrap();
+    assert_eq!(declared.basis(&[TYPE]), Ok(BASIS));
+    assert_eq!(
+        declared.variable(Variable::Operator(&[TYPE], &[TYPE])),
+        Ok(word(26, 0))
+    );
+    declared
+}
+
+/// The session's steps.
+fn steps() -> Steps {
+    let mut steps = Steps::new();
+    steps
+        .push(
+            Side::Left,
+            Step {
+                rule: 71,
+                place: 1,
+                ..Step::default()
+            },
+        )
+        .unwrap();
+    steps
+        .push(
+            Side::Left,
+            Step {
+                rule: 102,
+                ..Step::default()
+            },
+        )
+        .unwrap();
+    steps
+}
+
+/// Work slices that held other terms before.
+fn dirty() -> Work {
+    Work::of(&[9; 4096], &[8; 4096])
+}
+
+/// The answer to the session with one text in it replaced.
+fn damaged(old: &str, new: &str) -> (Answer, Work) {
+    assert!(SESSION.contains(old));
+    let mut work = dirty();
+    let answer = replay(SESSION.replacen(old, new, 1).as_bytes(), &mut work);
+    (answer, work)
+}
+
+/// Code, side, step, at of an answer.
+fn numbers(answer: Answer) -> (u8, u16, usize, usize) {
+    let side = answer.side.map_or(0, Side::number);
+    (answer.code.number(), side, answer.step, answer.at)
+}
+
+fn is_zero(work: &Work) -> bool {
+    work.left
+        .slice()
+        .iter()
+        .chain(work.right.slice())
+        .all(|&w| w == 0)
+}
+
+#[test]
+fn the_session_is_accepted() {
+    let mut work = dirty();
+    let answer = replay(SESSION.as_bytes(), &mut work);
+    assert_eq!(numbers(answer), (0, 0, 2, 0));
+    assert_eq!((answer.left, answer.right), (2, 2));
+    assert_eq!(answer.code.outcome(), Outcome::Accepted);
+    assert_eq!(
+        (work.left.words(), work.right.words()),
+        (&RIGHT[..], &RIGHT[..])
+    );
+    assert!(work.left.slice()[2..].iter().all(|&w| w == 0));
+}
+
+#[test]
+fn damages_by_the_typist() {
+    let cases = [
+        ("types=1\n", "types=1\u{7}\n", (3, 0, 0, 1)),
+        ("end=2\n", "end=2", (3, 0, 0, 8)),
+        ("right=16 3:0\n", "", (4, 0, 0, 5)),
+        ("types=1", "types=33", (5, 0, 0, 1)),
+        ("left=22", "left=22:0", (5, 0, 0, 4)),
+        ("step=L 71 1 0 0", "step=L 71 1 0", (5, 0, 0, 6)),
+        ("basis=1:0", "basis=2 1:0", (7, 0, 0, 2)),
+        ("right=16 3:0", "right=16 3:1", (8, 0, 0, 5)),
+        ("end=2", "end=3", (9, 0, 0, 8)),
+        (
+            "left=22 18 15 1:0 16 3:0",
+            "left=22 16 3:0 16 3:0",
+            (10, 1, 0, 0),
+        ),
+        ("right=16 3:0", "right=3:0", (11, 2, 0, 0)),
+        ("right=16 3:0", "right=6", (12, 0, 0, 0)),
+    ];
+    for (old, new, expected) in cases {
+        let (answer, work) = damaged(old, new);
+        assert_eq!(numbers(answer), expected, "{new}");
+        assert_eq!(answer.code.outcome(), Outcome::Typist);
+        assert_eq!((answer.left, answer.right), (0, 0));
+        assert!(is_zero(&work), "{new}");
+    }
+}
+
+#[test]
+fn sizes_of_files() {
+    let mut work = dirty();
+    assert_eq!(numbers(replay(b"", &mut work)), (3, 0, 0, 1));
+    assert_eq!(numbers(replay(&[b'\n'; 65536], &mut work)), (4, 0, 0, 1));
+    assert_eq!(numbers(replay(&[b'\n'; 65537], &mut work)), (2, 0, 0, 0));
+    let basis = "basis=1:0\n".repeat(33);
+    let (answer, _) = damaged("basis=1:0\n", &basis);
+    assert_eq!(numbers(answer), (6, 0, 0, 34));
+}
+
+#[test]
+fn damages_by_the_maker_of_the_steps() {
+    let cases = [
+        ("step=L 102 0 0 0", "step=L 8 0 0 0", (20, 1, 2, 0)),
+        ("step=L 102 0 0 0", "step=L 102 5 0 0", (21, 1, 2, 5)),
+        ("step=L 102 0 0 0", "step=L 103 0 0 0", (22, 1, 2, 0)),
+        ("step=L 102 0 0 0", "step=R 102 0 0 0", (22, 2, 2, 0)),
+    ];
+    for (old, new, expected) in cases {
+        let (answer, work) = damaged(old, new);
+        assert_eq!(numbers(answer), expected, "{new}");
+        assert_eq!(answer.code.outcome(), Outcome::Maker);
+        // the terms before the bad step
+        assert_eq!(
+            (work.left.words(), work.right.words()),
+            (&BETWEEN[..], &RIGHT[..])
+        );
+    }
+    let (answer, work) = damaged("step=L 102 0 0 0\nend=2", "end=1");
+    assert_eq!(numbers(answer), (30, 0, 1, 0));
+    assert_eq!(
+        answer.to_string(),
+        "the steps are good, and the ends differ from word 0 on"
+    );
+    assert_eq!(
+        (work.left.words(), work.right.words()),
+        (&BETWEEN[..], &RIGHT[..])
+    );
+}
+
+#[test]
+fn every_cut_of_the_session_is_answered() {
+    let mut work = dirty();
+    for n in 0..SESSION.len() {
+        let answer = replay(&SESSION.as_bytes()[..n], &mut work);
+        assert_eq!(answer.code.outcome(), Outcome::Typist, "{n} bytes");
+        assert!(is_zero(&work));
+    }
+}
+
+#[test]
+fn a_run_of_lent_steps() {
+    let mut work = Work::of(&LEFT, &RIGHT);
+    let answer = run(&declarations(), &mut work, &steps());
+    assert_eq!(numbers(answer), (0, 0, 2, 0));
+    assert_eq!(
+        (work.left.words(), work.right.words()),
+        (&RIGHT[..], &RIGHT[..])
+    );
+
+    let mut bad = steps();
+    bad.push(
+        Side::Right,
+        Step {
+            rule: 107,
+            place: 1,
+            ..Step::default()
+        },
+    )
+    .unwrap();
+    let mut work = Work::of(&LEFT, &RIGHT);
+    let answer = run(&declarations(), &mut work, &bad);
+    assert_eq!(numbers(answer), (22, 2, 3, 1));
+    assert_eq!(
+        answer.told(bad.rule(answer.step)),
+        "step 3 on the right, rule 107 at word 1: the part there is no instance of the rule"
+    );
+    assert_eq!(work.left.words(), RIGHT);
+
+    let mut work = Work::of(&LEFT[..5], &RIGHT);
+    assert_eq!(
+        run(&declarations(), &mut work, &steps()).code,
+        Code::BadTerm
+    );
+    assert!(is_zero(&work));
+    let mut work = Work::of(&[TYPE; 5000], &RIGHT);
+    assert_eq!(
+        run(&declarations(), &mut work, &steps()).code,
+        Code::BadTerm
+    );
+}
+
+#[test]
+fn single_steps() {
+    let mut term = Term::of(&LEFT);
+    let answer = step(
+        &declarations(),
+        &mut term,
+        Step {
+            rule: 71,
+            place: 1,
+            ..Step::default()
+        },
+    );
+    assert_eq!(
+        (
+            answer.code,
+            answer.side,
+            answer.step,
+            answer.at,
+            answer.length
+        ),
+        (Code::Accepted, None, 1, 0, 5)
+    );
+    assert_eq!(term.words(), BETWEEN);
+    let answer = step(
+        &declarations(),
+        &mut term,
+        Step {
+            rule: 71,
+            place: 1,
+            ..Step::default()
+        },
+    );
+    assert_eq!(
+        (answer.code, answer.step, answer.at, answer.length),
+        (Code::NoInstance, 1, 1, 5)
+    );
+    assert_eq!(
+        answer.to_string(),
+        "at word 1: the part there is no instance of the rule"
+    );
+    let answer = step(&declarations(), &mut Term::of(&[BASIS]), Step::default());
+    assert_eq!(
+        (answer.code, answer.step, answer.length),
+        (Code::NoTerm, 0, 0)
+    );
+}
+
+/// A sum of so many scalars, of which the first is a sum of two.
+fn sum(n: u8) -> Term {
+    let mut words = vec![word(7, n), word(7, 2), word(6, 0), word(6, 0)];
+    words.extend(vec![word(6, 0); usize::from(n) - 1]);
+    Term::of(&words)
+}
+
+#[test]
+fn a_step_past_the_limits() {
+    let merge = Step {
+        rule: 1,
+        ..Step::default()
+    };
+    let mut term = sum(254);
+    assert_eq!(step(&declarations(), &mut term, merge).code, Code::Accepted);
+    assert_eq!(term.words()[0], word(7, 255));
+    assert_eq!(
+        step(&declarations(), &mut sum(255), merge).code,
+        Code::PastLimits
+    );
+}
+
+#[test]
+fn types_of_terms() {
+    let found = typing(&declarations(), &Term::of(&LEFT));
+    assert_eq!(
+        (found.code, found.length, found.depth, found.kind),
+        (Code::Accepted, 6, 4, Kind::Ket(vec![TYPE]))
+    );
+    let operator = typing(&declarations(), &Term::of(&LEFT[1..4]));
+    assert_eq!(operator.kind, Kind::Operator(vec![TYPE], vec![TYPE]));
+    let bra = typing(&declarations(), &Term::of(&[word(17, 0), BASIS]));
+    assert_eq!(bra.kind, Kind::Bra(vec![TYPE]));
+    let scalar = typing(&declarations(), &Term::of(&[word(6, 0)]));
+    assert_eq!(
+        (scalar.code, scalar.length, scalar.depth, scalar.kind),
+        (Code::Accepted, 1, 1, Kind::Scalar)
+    );
+    let none = typing(
+        &declarations(),
+        &Term::of(&[word(22, 0), word(16, 0), BASIS, word(16, 0), BASIS]),
+    );
+    assert_eq!(
+        (none.code, none.at, none.length, none.kind),
+        (Code::Untyped, 0, 0, Kind::Scalar)
+    );
+}
+
+#[test]
+fn declarations_are_put_or_refused() {
+    assert_eq!(Declarations::of_types(33), Err(Refused::Bad));
+    let mut declared = Declarations::of_types(1).unwrap();
+    assert_eq!(declared.basis(&[word(1, 1)]), Err(Refused::Bad));
+    assert_eq!(declared.basis(&[]), Err(Refused::Bad));
+    assert_eq!(
+        declared.variable(Variable::Ket(&[word(2, 0), TYPE])),
+        Err(Refused::Bad)
+    );
+    assert_eq!(declared, Declarations::of_types(1).unwrap());
+    for a in 0..32 {
+        assert_eq!(declared.basis(&[TYPE]), Ok(word(3, a)));
+        assert_eq!(declared.variable(Variable::Scalar), Ok(word(26, a)));
+    }
+    assert_eq!(declared.basis(&[TYPE]), Err(Refused::Full));
+    assert_eq!(declared.variable(Variable::Scalar), Err(Refused::Full));
+}
+
+#[test]
+fn at_most_a_thousand_steps() {
+    let mut steps = Steps::new();
+    for k in 0..1000 {
+        assert_eq!(
+            steps.push(
+                Side::Right,
+                Step {
+                    rule: k,
+                    ..Step::default()
+                }
+            ),
+            Ok(())
+        );
+    }
+    assert_eq!(steps.push(Side::Left, Step::default()), Err(Refused::Full));
+    assert_eq!(
+        (
+            steps.count(),
+            steps.rule(1),
+            steps.rule(1000),
+            steps.rule(1001),
+            steps.rule(0)
+        ),
+        (1000, Some(0), Some(999), None, None)
+    );
+}
+
+/// The header says how much stack a call is tested with: on the deepest terms it is enough.
+#[test]
+fn a_small_stack_is_enough() {
+    let deep = format!(
+        "types=0\nleft={}6\nright={}5\nstep=L 12 62 0 0\nend=1\n",
+        "9 ".repeat(63),
+        "9 ".repeat(63)
+    );
+    let replayed = std::thread::Builder::new()
+        .stack_size(256 * 1024)
+        .spawn(move || replay(deep.as_bytes(), &mut Work::new()).code)
+        .unwrap();
+    assert!(replayed.join().unwrap().number() >= 20);
+}

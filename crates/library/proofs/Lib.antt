@@ -1,0 +1,3 @@
+-- The laws behind the library's functions.
+mod Copies
+mod Tests

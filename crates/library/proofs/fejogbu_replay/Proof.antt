@@ -1,0 +1,42 @@
+-- An answer of another size is refused; else the numbers are those of the answer, and the slices are as it left them.
+use mathlib.Core.Path.{refl, ap, _∙_}
+use borrow.Author.Needs.{needs}
+use borrow.Author.Tests.{eq-eqb, ne-eqb}
+use Rattle.library.specs.Numbers.{answerNumbers}
+use Rattle.library.proofs.fejogbu_replay.Statement.{statement}
+use Rattle.library.proofs.fejogbu_replay.Tie as tie
+
+returns : tie.Need-returns
+returns c = rw (ne-eqb _ _ (c .if1 .taken)) (refl, (refl, (refl, refl)))
+
+replay-requires : tie.Need-replay-requires
+replay-requires c κs = search needs
+
+put-answer-requires : tie.Need-put-answer-requires
+put-answer-requires c κs = search needs
+
+same-length : tie.Need-same-length
+same-length c = search needs
+
+same-length-2 : tie.Need-same-length-2
+same-length-2 c = search needs
+
+same-length-3 : tie.Need-same-length-3
+same-length-3 c = search needs
+
+returns-2 : tie.Need-returns-2
+returns-2 c =
+    let r = c .before .before .before .before .before .before .before .replay .ensures in
+    rw (eq-eqb _ _ (c .before .before .before .before .before .before .before .before .before .before .before .if1 .left)) (refl, (c .before .before .put-answer .ensures ∙ ap answerNumbers (r .0), (r .1 .0 .0, r .1 .0 .1)))
+
+pub fejogbu-replay-spec : {M : Type 1} → statement M
+fejogbu-replay-spec =
+    tie.close
+    (tie.spec
+    returns
+    replay-requires
+    put-answer-requires
+    same-length
+    same-length-2
+    same-length-3
+    returns-2)

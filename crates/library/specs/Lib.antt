@@ -1,0 +1,2 @@
+-- The library's answers as numbers.
+pub mod Numbers
