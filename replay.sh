@@ -25,7 +25,9 @@ build() {
     echo "replay.sh: proving the replay; the first time this takes minutes" >&2
     said=$(mktemp)
     status=$(mktemp)
-    (cd "$root" && { rt check replay 2>&1; echo $? > "$status"; }) | tee "$said" | sed -n 's/^rt: /  /p' >&2
+    (cd "$root" && { rt check replay 2>&1; echo $? > "$status"; }) | tee "$said" | while IFS= read -r line; do
+        case $line in 'rt: '*) echo "  ${line#rt: }" >&2 ;; esac
+    done
     if [ "$(cat "$status")" != 0 ]; then
         cat "$said" >&2
         rm -f "$said" "$status"
