@@ -87,40 +87,10 @@ extern "C" {
 mod tests {
     use super::*;
 
-    /// An answer's slice of another size is refused, and nothing is touched: not the answer, not the work slices.
-    #[test]
-    fn a_slice_of_another_size_is_refused() {
-        let mut left = [7u16; 4096];
-        let mut right = [8u16; 4096];
-        for size in [0, 1, 5, 7, 12] {
-            let mut answer = vec![9u64; size];
-            let text = b"types=0\nleft=5\nright=5\nend=0\n";
-            let returned = unsafe {
-                fejogbu_replay(
-                    text.as_ptr(),
-                    text.len(),
-                    left.as_mut_ptr(),
-                    left.len(),
-                    right.as_mut_ptr(),
-                    right.len(),
-                    answer.as_mut_ptr(),
-                    size,
-                )
-            };
-            assert_eq!(returned, 1);
-            assert!(answer.iter().all(|&n| n == 9));
-            assert!(left.iter().all(|&w| w == 7) && right.iter().all(|&w| w == 8));
-        }
-    }
-
-    /// A work slice of another size is code 1, and it is untouched.
-    #[test]
-    fn a_work_slice_of_another_size_is_code_1() {
-        let mut left = [7u16; 4095];
-        let mut right = [8u16; 4096];
-        let mut answer = [9u64; 6];
+    /// What the library returns for an accepted file in slices of these sizes.
+    fn replay(left: &mut [u16], right: &mut [u16], answer: &mut [u64]) -> u64 {
         let text = b"types=0\nleft=5\nright=5\nend=0\n";
-        let returned = unsafe {
+        unsafe {
             fejogbu_replay(
                 text.as_ptr(),
                 text.len(),
@@ -131,9 +101,31 @@ mod tests {
                 answer.as_mut_ptr(),
                 answer.len(),
             )
-        };
-        assert_eq!((returned, answer), (0, [1, 0, 0, 0, 0, 0]));
-        assert!(left.iter().all(|&w| w == 7) && right.iter().all(|&w| w == 8));
+        }
+    }
+
+    /// An answer's slice of another size is refused, and nothing is touched: not the answer, not the work slices.
+    #[test]
+    fn a_slice_of_another_size_is_refused() {
+        let mut left = [7; 4096];
+        let mut right = [8; 4096];
+        for size in [0, 1, 5, 7, 12] {
+            let mut answer = vec![9; size];
+            assert_eq!(replay(&mut left, &mut right, &mut answer), 1);
+            assert!(answer.iter().all(|&n| n == 9));
+            assert_eq!((left, right), ([7; 4096], [8; 4096]));
+        }
+    }
+
+    /// A work slice of another size is code 1, and it is untouched.
+    #[test]
+    fn a_work_slice_of_another_size_is_code_1() {
+        let mut left = [7; 4095];
+        let mut right = [8; 4096];
+        let mut answer = [9; 6];
+        assert_eq!(replay(&mut left, &mut right, &mut answer), 0);
+        assert_eq!(answer, [1, 0, 0, 0, 0, 0]);
+        assert_eq!((left, right), ([7; 4095], [8; 4096]));
     }
 
     /// A side that is neither 1 nor 2, a step past the slice and a step past the thousandth are not put.

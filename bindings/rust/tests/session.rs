@@ -30,28 +30,20 @@ fn declarations() -> Declarations {
     declared
 }
 
+/// The step of a rule at a place, without numbers.
+fn by(rule: u16, place: u16) -> Step {
+    Step {
+        rule,
+        place,
+        ..Step::default()
+    }
+}
+
 /// The session's steps.
 fn steps() -> Steps {
     let mut steps = Steps::new();
-    steps
-        .push(
-            Side::Left,
-            Step {
-                rule: 71,
-                place: 1,
-                ..Step::default()
-            },
-        )
-        .unwrap();
-    steps
-        .push(
-            Side::Left,
-            Step {
-                rule: 102,
-                ..Step::default()
-            },
-        )
-        .unwrap();
+    steps.push(Side::Left, by(71, 1)).unwrap();
+    steps.push(Side::Left, by(102, 0)).unwrap();
     steps
 }
 
@@ -187,15 +179,7 @@ fn a_run_of_lent_steps() {
     );
 
     let mut bad = steps();
-    bad.push(
-        Side::Right,
-        Step {
-            rule: 107,
-            place: 1,
-            ..Step::default()
-        },
-    )
-    .unwrap();
+    bad.push(Side::Right, by(107, 1)).unwrap();
     let mut work = Work::of(&LEFT, &RIGHT);
     let answer = run(&declarations(), &mut work, &bad);
     assert_eq!(numbers(answer), (22, 2, 3, 1));
@@ -221,15 +205,7 @@ fn a_run_of_lent_steps() {
 #[test]
 fn single_steps() {
     let mut term = Term::of(&LEFT);
-    let answer = step(
-        &declarations(),
-        &mut term,
-        Step {
-            rule: 71,
-            place: 1,
-            ..Step::default()
-        },
-    );
+    let answer = step(&declarations(), &mut term, by(71, 1));
     assert_eq!(
         (
             answer.code,
@@ -241,15 +217,7 @@ fn single_steps() {
         (Code::Accepted, None, 1, 0, 5)
     );
     assert_eq!(term.words(), BETWEEN);
-    let answer = step(
-        &declarations(),
-        &mut term,
-        Step {
-            rule: 71,
-            place: 1,
-            ..Step::default()
-        },
-    );
+    let answer = step(&declarations(), &mut term, by(71, 1));
     assert_eq!(
         (answer.code, answer.step, answer.at, answer.length),
         (Code::NoInstance, 1, 1, 5)
@@ -274,10 +242,7 @@ fn sum(n: u8) -> Term {
 
 #[test]
 fn a_step_past_the_limits() {
-    let merge = Step {
-        rule: 1,
-        ..Step::default()
-    };
+    let merge = by(1, 0);
     let mut term = sum(254);
     assert_eq!(step(&declarations(), &mut term, merge).code, Code::Accepted);
     assert_eq!(term.words()[0], word(7, 255));
@@ -336,16 +301,7 @@ fn declarations_are_put_or_refused() {
 fn at_most_a_thousand_steps() {
     let mut steps = Steps::new();
     for k in 0..1000 {
-        assert_eq!(
-            steps.push(
-                Side::Right,
-                Step {
-                    rule: k,
-                    ..Step::default()
-                }
-            ),
-            Ok(())
-        );
+        assert_eq!(steps.push(Side::Right, by(k, 0)), Ok(()));
     }
     assert_eq!(steps.push(Side::Left, Step::default()), Err(Refused::Full));
     assert_eq!(

@@ -59,9 +59,6 @@ room-is ds k e = let g = declarations ds e in rw (eq-eqb _ _ (g .long), le-leb _
 has-room : (ds : List ℕ) (k n : ℕ) → goodDeclarations ds ≡ true → getD ds k 0 ≡ n → n < maxNames → room ds k ≡ Done
 has-room ds k n e h l = room-is ds k e ∙ rw (h, ne-eqb n maxNames (λ z. omega arith))
 
-is-full : (ds : List ℕ) (k n : ℕ) → goodDeclarations ds ≡ true → getD ds k 0 ≡ n → n ≡ maxNames → room ds k ≡ Full
-is-full ds k n e h l = room-is ds k e ∙ rw (h, eq-eqb n maxNames l)
-
 begun : (ds : List ℕ) (N : ℕ) → length ds ≡ size → N ≤ maxNames → Stands (started ds N) N 0 0 (record { types = N; bases = []; variables = [] })
 begun ds N l h =
     record {
@@ -151,11 +148,5 @@ module _ (f : File) (s : Sound f) where
   pub room-bases : length (f .bases) < maxNames → room (declarationsOf f) 1 ≡ Done
   room-bases = has-room (declarationsOf f) 1 _ (declared .good) (declared .bases)
 
-  pub full-bases : length (f .bases) ≡ maxNames → room (declarationsOf f) 1 ≡ Full
-  full-bases = is-full (declarationsOf f) 1 _ (declared .good) (declared .bases)
-
   pub room-variables : length (f .variables) < maxNames → room (declarationsOf f) 2 ≡ Done
   room-variables = has-room (declarationsOf f) 2 _ (declared .good) (declared .variables)
-
-  pub full-variables : length (f .variables) ≡ maxNames → room (declarationsOf f) 2 ≡ Full
-  full-variables = is-full (declarationsOf f) 2 _ (declared .good) (declared .variables)

@@ -8,8 +8,8 @@ mod Variables
 mod Moves
 pub mod Values
 pub mod Lines
-pub mod Runs
-pub mod Stated
+mod Runs
+mod Stated
 pub mod Reached
 mod Rows
 mod Plain

@@ -68,7 +68,3 @@ padded-front ws = take-append-seam ws (replicate (maxWords - length ws) 0)
 pub padded-size : (ws : List ℕ) → length ws ≤ maxWords → length (padded ws) ≡ maxWords
 unfolding padded
 padded-size ws h = simp (length-append, length-replicate) (omega arith)
-
-pub padded-none : padded [] ≡ replicate maxWords 0
-unfolding padded
-padded-none = refl

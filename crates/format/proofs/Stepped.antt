@@ -99,9 +99,6 @@ module _ (f : File) where
   unfolding stepsOf
   steps-size = size-kept (replicate stepsSize 0) 0 (f .steps) ∙ empty
 
-  pub steps-room : length (f .steps) < maxSteps → hasRoom (stepsOf f) (length (f .steps)) ≡ true
-  steps-room = room-for (stepsOf f) (length (f .steps)) steps-size
-
   pub moves-kept : length (f .steps) ≤ maxSteps → movesIn (stepsOf f) (length (f .steps)) ≡ f .steps
   unfolding stepsOf movesIn upTo
   moves-kept h = simp zero-add at (moves-put (replicate stepsSize 0) 0 (f .steps) empty (omega arith))

@@ -6,7 +6,6 @@ use mathlib.Core.Option.{some, none}
 use Prim.Native.Nat.{ℕ, zero, suc, _+_, _-_, _*_, _/_, _%_, _≤_, _<_}
 use native.Mathlib.Omega.{arith}
 use lib.Dec.{eqb, leb, ltb}
-use lib.ListN.{length, length-append}
 use lib.Seq.{append-snoc}
 use borrow.Author.Tests.{ltb-true, ltb-false, leb-true, eqb-false, not-true, lt-ltb, le-ltb, le-leb, ne-eqb}
 use Rattle.text.specs.Numbers.{isDigit, allDigits, valueFrom, wellBegun, isNumber, numberIn, digitsBy, decimal}
@@ -23,10 +22,6 @@ is-digit d h = rw (le-leb 48 (48 + d) (omega arith), le-leb (48 + d) 57 (omega a
 pub digit-is : (b : ℕ) → isDigit b ≡ true → (48 ≤ b) × (b ≤ 57)
 unfolding isDigit
 digit-is b e = let r = and-eq-true-iff (leb 48 b) (leb b 57) .0 e in (leb-true 48 b (r .0), leb-true b 57 (r .1))
-
-text-some : {bs : List ℕ} {n : ℕ} → Text bs n → 0 < length bs
-text-some (one b e v) = omega arith
-text-some (more {bs} b r p e v) = omega (arith, length-append bs (b ∷ []))
 
 -- ---- `digitsBy` writes them
 written-by : (k n : ℕ) (t : Bool) → ltb n 10 ≡ t → (10 ≤ n → Text (digitsBy k (n / 10)) (n / 10)) → Text (cond t ((48 + n) ∷ []) (digitsBy k (n / 10) ++ (48 + n % 10) ∷ [])) n
@@ -113,6 +108,3 @@ number-digits bs n e = rw append-nil at (text-digits (number-in bs n e) [])
 
 pub decimal-digits : (n : ℕ) → allDigits (decimal n) ≡ true
 decimal-digits n = number-digits (decimal n) n (number-decimal n)
-
-pub some-digits : (n : ℕ) → 0 < length (decimal n)
-some-digits n = text-some (number-in (decimal n) n (number-decimal n))

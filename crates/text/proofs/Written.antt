@@ -137,11 +137,6 @@ unfolding spaced lacks
 spaced-lack b [] d s c = refl
 spaced-lack b (w ∷ ws) d s c = lacks-more b space (token w ++ spaced ws) s (lacks-append b (token w) (spaced ws) (token-lacks b w d c) (spaced-lack b ws d s c))
 
-pub tokens-lack : (b : ℕ) (ws : List ℕ) → isDigit b ≡ false → eqb b space ≡ false → eqb b colon ≡ false → lacks b (tokens ws) ≡ true
-unfolding tokens lacks
-tokens-lack b [] d s c = refl
-tokens-lack b (w ∷ ws) d s c = lacks-append b (token w) (spaced ws) (token-lacks b w d c) (spaced-lack b ws d s c)
-
 -- ---- rows of tokens
 unfoldable pub allKnown : List ℕ → Bool
 unfolding known

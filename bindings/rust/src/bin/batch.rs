@@ -49,7 +49,9 @@ fn files_under(path: &Path, only: &str, found: &mut Vec<PathBuf>) {
 
 fn read(path: &Path) -> std::io::Result<Vec<u8>> {
     let mut bytes = Vec::new();
-    fs::File::open(path)?.take(MOST_BYTES).read_to_end(&mut bytes)?;
+    fs::File::open(path)?
+        .take(MOST_BYTES)
+        .read_to_end(&mut bytes)?;
     Ok(bytes)
 }
 
@@ -68,7 +70,9 @@ fn quoted(text: &str) -> String {
 
 /// The rule of a file's step, counted from 1, as its line names it.
 fn rule_of(file: &[u8], step: usize) -> Option<u16> {
-    let lines = file.split(|&byte| byte == b'\n').filter(|line| line.starts_with(b"step="));
+    let lines = file
+        .split(|&byte| byte == b'\n')
+        .filter(|line| line.starts_with(b"step="));
     let line = std::str::from_utf8(lines.skip(step.checked_sub(1)?).next()?).ok()?;
     line.split(' ').nth(1)?.parse().ok()
 }
@@ -91,7 +95,13 @@ fn json(path: &Path, answer: &Result<Told, String>) -> String {
     match answer {
         Ok(Told { answer: a, words }) => format!(
             r#"{{"file":{file},"code":{},"side":{},"step":{},"at":{},"left":{},"right":{},"words":{}}}"#,
-            a.code.number(), a.side.map_or(0, |side| side.number()), a.step, a.at, a.left, a.right, quoted(words)
+            a.code.number(),
+            a.side.map_or(0, |side| side.number()),
+            a.step,
+            a.at,
+            a.left,
+            a.right,
+            quoted(words)
         ),
         Err(why) => format!(r#"{{"file":{file},"unreadable":{}}}"#, quoted(why)),
     }
@@ -157,9 +167,20 @@ fn main() -> ExitCode {
         }
         progress(k + 1, files.len());
     }
-    let Counts { accepted, refused, unreadable } = counts;
+    let Counts {
+        accepted,
+        refused,
+        unreadable,
+    } = counts;
     if !asked.json {
-        println!("{} files: {accepted} accepted, {refused} refused, {unreadable} unreadable", files.len());
+        println!(
+            "{} files: {accepted} accepted, {refused} refused, {unreadable} unreadable",
+            files.len()
+        );
     }
-    if refused + unreadable == 0 { ExitCode::SUCCESS } else { ExitCode::FAILURE }
+    if refused + unreadable == 0 {
+        ExitCode::SUCCESS
+    } else {
+        ExitCode::FAILURE
+    }
 }
