@@ -18,10 +18,13 @@ use Rattle.term.specs.declared.parts.Side.the-variants.{Left, Right}
 use Rattle.rules.specs.Steps.{Move}
 use Rattle.lent.specs.Lent.{maxSteps, stepAt, hasRoom, stepWordsOf, stepPut}
 use Rattle.text.specs.declared.numbers.Number.the-variants as N
-use Rattle.text.specs.Pieces.{Text, space, parted, pieceEnd, fieldsFrom}
+use Rattle.text.specs.Pieces.{Text, space, parted, fieldsFrom}
 use Rattle.text.specs.Numbers.{isNumber, wellBegun, numberIn, limitedTo, atMost, told}
 use Rattle.text.proofs.Told.{no-number, a-number, none-limited, over-limit, in-limit}
 use Rattle.text.proofs.Tokened.{fields-more, fields-end, fields-all, piece-within}
+use Rattle.cursor.specs.declared.Span.{Span}
+use Rattle.cursor.specs.Reading.{spanAt}
+use Rattle.cursor.proofs.Spans.{span-end, span-next}
 use Rattle.format.specs.Files.{File, maxField, Step}
 use Rattle.format.specs.Reading.{Line, wrong, full, sideIn, moveOf, moveIn, andStep, takeStep, takeEnd}
 use Rattle.format.specs.Kept.{stepsOf}
@@ -34,12 +37,15 @@ use Rattle.reader.specs.declared.stepping.Field.the-variants as F
 use Rattle.reader.specs.Code.Lines.{fault, faultOf, Put, SideRead, named, unnamed, FieldRead, field, no-field}
 
 -- ---- the side
-module _ (s : Text) {end : ℕ} (e : end ≡ pieceEnd s 0 space) where
+module _ (s : Text) {r : Span} (e : r ≡ spanAt s 0 space) where
+  abbrev end : ℕ
+  end = r .end
+
   first-long : end ≤ length s
-  first-long = piece-within s 0 e (omega arith) .1
+  first-long = piece-within s 0 (span-end s 0 space e) (omega arith) .1
 
   first-field : fieldsFrom 0 s ≡ take end s ∷ fieldsFrom (end + 1) s
-  first-field = let z : end - 0 ≡ end = omega arith in rw z at (fields-more s 0 e (omega arith))
+  first-field = let z : end - 0 ≡ end = omega arith in rw z at (fields-more s 0 (span-end s 0 space e) (omega arith))
 
   first-size : length (take end s) ≡ end
   first-size = length-take-le end s first-long
@@ -80,12 +86,15 @@ module _ (s : Text) (at : ℕ) where
   unfolding limitedTo
   field-missing h = no-field (rw (fields-end s at h, empty-number))
 
-  module _ {end : ℕ} (e : end ≡ pieceEnd s at space) (h : at ≤ length s) where
+  module _ {r : Span} (e : r ≡ spanAt s at space) (h : at ≤ length s) where
     abbrev piece : Option ℕ
-    piece = numberIn (take (end - at) (drop at s))
+    piece = numberIn (take (r .end - at) (drop at s))
+
+    this-field : fieldsFrom at s ≡ take (r .end - at) (drop at s) ∷ fieldsFrom (r .end + 1) s
+    this-field = fields-more s at (span-end s at space e) h
 
     not-at-most : limitedTo maxField piece ≡ none → FieldRead s at F.Malformed
-    not-at-most n = no-field (rw (fields-more s at e h) n)
+    not-at-most n = no-field (rw this-field n)
 
     pub field-bad : told piece ≡ N.Malformed → FieldRead s at F.Malformed
     field-bad t = not-at-most (none-limited maxField piece t)
@@ -93,10 +102,11 @@ module _ (s : Text) (at : ℕ) where
     pub field-over : {v : ℕ} → told piece ≡ N.Value v → maxField < v → FieldRead s at F.Malformed
     field-over t g = not-at-most (over-limit maxField piece t (omega arith) g)
 
-    pub field-number : {v : ℕ} → told piece ≡ N.Value v → v ≤ maxField → FieldRead s at (F.Number v (end + 1))
+    pub field-number : {v : ℕ} → told piece ≡ N.Value v → v ≤ maxField → FieldRead s at (F.Number v (r .next))
     field-number t g =
-        let w = piece-within s at e h in
-        field (take (end - at) (drop at s)) (fields-more s at e h) (in-limit maxField piece t (omega arith) g) (omega arith)
+        let w = piece-within s at (span-end s at space e) h in
+        let n = span-next s at space e (omega arith) in
+        field {next = r .next} (take (r .end - at) (drop at s)) (rw n this-field) (in-limit maxField piece t (omega arith) g) (omega arith)
 
 -- ---- the five fields
 abbrev fieldAt : List Text → ℕ → Option ℕ

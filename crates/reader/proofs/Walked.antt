@@ -1,17 +1,20 @@
 -- The walk over the lines: what is left of the reading is the reading of the lines from the cursor on.
 use mathlib.Core.Path.{_≡_, refl, sym, _∙_, ap}
 use mathlib.Core.Logic.{_≢_}
-use mathlib.Core.Bool.{true, false, and-eq-true-iff}
+use mathlib.Core.Bool.{Bool, true, false, not, and-eq-true-iff}
 use mathlib.Core.List.{List, [], _∷_, _++_}
 use Prim.Native.Nat.{ℕ, _+_, _-_, _≤_, _<_}
 use native.Mathlib.Omega.{arith}
-use borrow.Author.Tests.{eq-eqb, ne-eqb}
+use borrow.Author.Tests.{eq-eqb, ne-eqb, lt-leb, leb-true, leb-false, not-true, not-false}
 use lib.ListN.{length, take, drop, replicate, length-append, length-drop, drop-of-length-le}
 use lib.Seq.{take-at, drop-drop, drop-append-add}
 use Rattle.bytes.specs.Bytes.{indexOf}
 use Rattle.text.specs.Bytes.{lineFeed, badLine}
 use Rattle.text.specs.Pieces.{Text, linesOf, ended, pieceEnd}
 use Rattle.text.proofs.Cutting.{lacks, allLack, index-lacks, lines-lack, ended-lines}
+use Rattle.cursor.specs.declared.Span.{Span}
+use Rattle.cursor.specs.Reading.{atEnd, spanAt}
+use Rattle.cursor.proofs.Spans.{span-end, span-next, span-last}
 use Rattle.format.specs.Files.{File}
 use Rattle.format.specs.Reading.{Line, wrong, good, lineOf, Reading, onLine, keyOf, stageAfter, readFrom, nothing}
 use Rattle.format.specs.Reading as R
@@ -36,10 +39,22 @@ pub record Rest (bytes : Text) (at line : ℕ) (s : State) (ds ls rs ms : List �
   pub lack : allLack lineFeed lines ≡ true
   pub same : readFrom 1 0 nothing (linesOf bytes) ≡ readFrom line (s .stage) file lines
 
+-- where the loop over the lines stands: lines are counted, the slices have their sizes, and the reader knows whether it is at the end
+pub record Standing (bytes : Text) (at line : ℕ) (over : Bool) (s : State) (ds ls rs ms : List ℕ) : Type 0 where
+  pub counted : line ≤ at + 1
+  pub sizes : Sizes ds ls rs ms
+  pub over-is : over ≡ atEnd bytes at
+  pub rest : Rest bytes at line s ds ls rs ms
+
+-- what is told of the taking of a line
+abbrev pub Lined : Text → ℕ → State → List ℕ → List ℕ → List ℕ → List ℕ → Taken → List ℕ → List ℕ → List ℕ → List ℕ → Type 0
+Lined text line s ds ls rs ms r es ks qs ns =
+    (length es ≡ length ds) × (length ks ≡ length ls) × (length qs ≡ length rs) × (length ns ≡ length ms) × ((f : File) → Holding s f ds ls rs ms → After line (keyOf text) (lineOf (s .stage) f text) r es ks qs ns)
+
 abbrev pub beginning : State
 beginning = record { stage = 0; left = 0; right = 0; steps = 0 }
 
-pub rest-start : {bytes : Text} {ds ls rs ms : List ℕ} → badLine 1 false bytes ≡ 0 → ms ≡ replicate stepsSize 0 → Rest bytes 0 1 beginning ds ls rs ms
+rest-start : {bytes : Text} {ds ls rs ms : List ℕ} → badLine 1 false bytes ≡ 0 → ms ≡ replicate stepsSize 0 → Rest bytes 0 1 beginning ds ls rs ms
 unfolding stepsOf putSteps
 rest-start {bytes} b m = record {
   file = nothing;
@@ -58,25 +73,27 @@ rest-start {bytes} b m = record {
 }
 
 -- ---- the next line
-pub record Next (bytes : Text) (at end : ℕ) (lines : List Text) : Type 0 where
+pub record Next (bytes : Text) (at : ℕ) (r : Span) (lines : List Text) : Type 0 where
   pub line : Text
   pub others : List Text
   pub are : lines ≡ line ∷ others
-  pub is : take (end - at) (drop at bytes) ≡ line
-  pub rest : drop (end + 1) bytes ≡ ended others
+  pub is : take (r .end - at) (drop at bytes) ≡ line
+  pub rest : drop (r .next) bytes ≡ ended others
   pub lack : allLack lineFeed others ≡ true
-  pub within : (at ≤ end) × (end < length bytes)
+  pub within : (at ≤ r .end) × (r .end < r .next) × (r .next ≤ length bytes)
 
-next-line : (bytes : Text) (at : ℕ) {end : ℕ} (lines : List Text) → drop at bytes ≡ ended lines → allLack lineFeed lines ≡ true → at < length bytes → end ≡ pieceEnd bytes at lineFeed → Next bytes at end lines
+next-line : (bytes : Text) (at : ℕ) {r : Span} (lines : List Text) → drop at bytes ≡ ended lines → allLack lineFeed lines ≡ true → at < length bytes → r ≡ spanAt bytes at lineFeed → Next bytes at r lines
 unfolding ended allLack pieceEnd
 next-line bytes at [] e l h p = absurd (let d = length-drop at bytes in let z : length (drop at bytes) ≡ 0 = ap length e in omega arith)
-next-line bytes at {end} (x ∷ xs) e l h p =
+next-line bytes at {r} (x ∷ xs) e l h p =
+    let b = span-end bytes at lineFeed p in
     let a = and-eq-true-iff (lacks lineFeed x) (allLack lineFeed xs) .0 l in
     let i : indexOf lineFeed (drop at bytes) ≡ length x = rw e (index-lacks lineFeed x (ended xs) (a .0)) in
-    let n : end - at ≡ length x = omega arith in
-    let m : end + 1 ≡ at + (length x + 1) = omega arith in
+    let n : r .end - at ≡ length x = omega arith in
     let d = length-drop at bytes in
     let k : length (drop at bytes) ≡ length x + length (lineFeed ∷ ended xs) = rw e (length-append x (lineFeed ∷ ended xs)) in
+    let y = span-next bytes at lineFeed p (omega arith) in
+    let m : r .next ≡ at + (length x + 1) = omega arith in
     record {
       line = x;
       others = xs;
@@ -84,12 +101,12 @@ next-line bytes at {end} (x ∷ xs) e l h p =
       is = rw (n, e) (take-at x (lineFeed ∷ ended xs) (length x) refl);
       rest = rw (m, ← drop-drop (length x + 1) at bytes, e) (drop-append-add x (lineFeed ∷ ended xs) 1);
       lack = a .1;
-      within = (omega arith, omega arith);
+      within = (omega arith, omega arith, omega arith);
     }
 
 -- ---- a line's fault, and no fault
 module _ (n s : ℕ) (f : File) (l : Text) (ls : List Text) (r : Taken) (answer : r .fault ≡ faultOf n (lineOf s f l)) where
-  pub line-fault : r .fault .code ≢ 0 → refusal (r .fault .code) (r .fault .at) ≡ answerOf (readFrom n s f (l ∷ ls))
+  line-fault : r .fault .code ≢ 0 → refusal (r .fault .code) (r .fault .at) ≡ answerOf (readFrom n s f (l ∷ ls))
   unfolding readFrom onLine faultOf answerOf
   line-fault h = go (lineOf s f l) answer
     where
@@ -97,7 +114,7 @@ module _ (n s : ℕ) (f : File) (l : Text) (ls : List Text) (r : Taken) (answer 
       go (wrong c) e = rw e
       go (good g) e = absurd (h (ap (λ x. x .code) e))
 
-  pub line-good : r .fault .code ≡ 0 → (g : File) × (lineOf s f l ≡ good g) × (readFrom n s f (l ∷ ls) ≡ readFrom (n + 1) (stageAfter (keyOf l)) g ls)
+  line-good : r .fault .code ≡ 0 → (g : File) × (lineOf s f l ≡ good g) × (readFrom n s f (l ∷ ls) ≡ readFrom (n + 1) (stageAfter (keyOf l)) g ls)
   unfolding readFrom onLine faultOf
   line-good h = go (lineOf s f l) refl answer (line f s l)
     where
@@ -120,14 +137,14 @@ module _ {bytes : Text} {at line : ℕ} {s : State} {ds ls rs ms : List ℕ} (h 
   pub few-steps : s .steps ≤ maxSteps
   few-steps = let e = h .holding .steps .1 in let k = few-steps-at (h .holding .reached) in omega arith
 
-  pub next : {end : ℕ} → at < length bytes → end ≡ pieceEnd bytes at lineFeed → Next bytes at end (h .lines)
+  next : {r : Span} → at < length bytes → r ≡ spanAt bytes at lineFeed → Next bytes at r (h .lines)
   next g e = next-line bytes at (h .lines) (h .text) (h .lack) g e
 
-  module _ {end : ℕ} (x : Next bytes at end (h .lines)) {r : Taken} {es ks qs ns : List ℕ} (a : After line (keyOf (x .line)) (lineOf (s .stage) (h .file) (x .line)) r es ks qs ns) where
-    pub stops : r .fault .code ≢ 0 → refusal (r .fault .code) (r .fault .at) ≡ answerOf (readFrom 1 0 nothing (linesOf bytes))
+  module _ {p : Span} (x : Next bytes at p (h .lines)) {r : Taken} {es ks qs ns : List ℕ} (a : After line (keyOf (x .line)) (lineOf (s .stage) (h .file) (x .line)) r es ks qs ns) where
+    stops : r .fault .code ≢ 0 → refusal (r .fault .code) (r .fault .at) ≡ answerOf (readFrom 1 0 nothing (linesOf bytes))
     stops c = line-fault line (s .stage) (h .file) (x .line) (x .others) r (a .answer) c ∙ rw (h .same, x .are)
 
-    pub goes-on : r .fault .code ≡ 0 → Rest bytes (end + 1) (line + 1) (r .state) es ks qs ns
+    goes-on : r .fault .code ≡ 0 → Rest bytes (p .next) (line + 1) (r .state) es ks qs ns
     goes-on c =
         let g = line-good line (s .stage) (h .file) (x .line) (x .others) r (a .answer) c in
         record {
@@ -167,3 +184,39 @@ module _ {bytes : Text} {at line : ℕ} {s : State} {ds ls rs ms : List ℕ} (h 
 -- a fault leaves nothing to be said of the words
 pub found-fault : {o : Reading} {r : Read} {c n : ℕ} {ds ls rs ms : List ℕ} → r ≡ refusal c n → refusal c n ≡ answerOf o → c ≢ 0 → Sizes ds ls rs ms → Found o r ds ls rs ms
 found-fault {o} {r} {c} e a n z = record { answer = e ∙ a; sizes = z; words = λ f k. absurd (n (ap (λ x. x .code) a ∙ code-of k)) }
+
+-- ---- the loop
+not-empty : (bytes : Text) → badLine 1 false bytes ≡ 0 → false ≡ atEnd bytes 0
+unfolding badLine
+not-empty [] b = absurd (let z : 1 ≡ 0 = b in omega arith)
+not-empty (x ∷ xs) b = sym (lt-leb (length (x ∷ xs)) 0 (omega arith))
+
+pub standing-start : {bytes : Text} {ds ls rs ms : List ℕ} → badLine 1 false bytes ≡ 0 → Sizes ds ls rs ms → ms ≡ replicate stepsSize 0 → Standing bytes 0 1 false beginning ds ls rs ms
+standing-start {bytes} b z m = record { counted = omega arith; sizes = z; over-is = not-empty bytes b; rest = rest-start b m }
+
+module _ {bytes : Text} {at line : ℕ} {over : Bool} {s : State} {ds ls rs ms : List ℕ} (h : Standing bytes at line over s ds ls rs ms) where
+  module _ (going : not over ≡ true) {p : Span} (e : p ≡ spanAt bytes at lineFeed) where
+    pub line-at : Next bytes at p (h .rest .lines)
+    line-at = next (h .rest) (leb-false (length bytes) at (sym (h .over-is) ∙ not-true over going)) e
+
+    module _ {r : Taken} {es ks qs ns : List ℕ} (told : Lined (take (p .end - at) (drop at bytes)) line s ds ls rs ms r es ks qs ns) where
+      sizes-kept : Sizes es ks qs ns
+      sizes-kept = (told .0 ∙ h .sizes .0, told .1 ∙ h .sizes .1, told .2 ∙ h .sizes .2, told .3 ∙ h .sizes .3)
+
+      taken : After line (keyOf (line-at .line)) (lineOf (s .stage) (h .rest .file) (line-at .line)) r es ks qs ns
+      taken = rw (line-at .is) at (told .4 (h .rest .file) (h .rest .holding))
+
+      pub line-refused : {a : Read} → a ≡ refusal (r .fault .code) (r .fault .at) → r .fault .code ≢ 0 → Found (readFrom 1 0 nothing (linesOf bytes)) a es ks qs ns
+      line-refused a n = found-fault a (stops (h .rest) line-at taken n) n sizes-kept
+
+      pub line-taken : r .fault .code ≡ 0 → Standing bytes (p .next) (line + 1) (p .last) (r .state) es ks qs ns
+      line-taken n =
+          record {
+            counted = let c = h .counted in let w = line-at .within in omega arith;
+            sizes = sizes-kept;
+            over-is = span-last bytes at lineFeed e;
+            rest = goes-on (h .rest) line-at taken n;
+          }
+
+  pub over-end : not over ≡ false → length bytes ≤ at
+  over-end n = leb-true (length bytes) at (sym (h .over-is) ∙ not-false over n)

@@ -1,9 +1,9 @@
 // The reading of a file into lent words: declarations, two terms, steps. Nothing is relied on.
 use crate::walking::State;
 use crate::walking::take_line;
+use cursor::piece_at;
 use declarations::SIZE;
 use text::pieces::bad_line;
-use text::pieces::piece_end;
 use words::clear_from;
 ghost use mathlib.Core.Path.{_≡_};
 ghost use mathlib.Core.Bool.{false};
@@ -23,12 +23,6 @@ pub struct Read {
     pub left: usize,
     pub right: usize,
     pub steps: usize,
-}
-
-// Where the reading stands: the offset of the next line, and its number, from 1.
-struct Cursor {
-    at: usize,
-    line: usize,
 }
 
 // The words of the steps of a file, used or not.
@@ -63,23 +57,24 @@ fn read_lines(
         right: 0,
         steps: 0,
     };
-    let mut cursor = Cursor { at: 0, line: 1 };
-    while cursor.at < bytes.len() {
-        let at = cursor.at;
-        let end = piece_end(bytes, at, 10);
-        let taken = take_line(&bytes[at..end], cursor.line, s, ds, left, right, steps);
+    let mut at = 0;
+    let mut line = 1;
+    let mut ended = false;
+    while !ended {
+        let span = piece_at(bytes, at, 10);
+        let end = span.end;
+        let taken = take_line(&bytes[at..end], line, s, ds, left, right, steps);
         let fault = taken.fault;
         if fault.code != 0 {
             return refuse(fault.code, fault.at);
         }
         s = taken.state;
-        cursor = Cursor {
-            at: end + 1,
-            line: cursor.line + 1,
-        };
+        at = span.next;
+        line += 1;
+        ended = span.last;
     }
     if s.stage != 5 {
-        return refuse(4, cursor.line);
+        return refuse(4, line);
     }
     Read {
         code: 0,

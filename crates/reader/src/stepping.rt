@@ -1,13 +1,13 @@
 // The line of a step, and the last line.
 use crate::faults::Fault;
 use crate::faults::refused;
+use cursor::piece_at;
 use lent::steps::MOST_STEPS;
 use lent::steps::Step;
 use lent::steps::put_step;
 use term::parts::Side;
 use text::numbers::Number;
 use text::numbers::read_number;
-use text::pieces::piece_end;
 ghost use mathlib.Core.Path.{_≡_};
 ghost use mathlib.Core.Bool.{cond};
 ghost use Prim.Native.Nat.{_≤_};
@@ -36,7 +36,8 @@ enum Field {
 fn read_side(text: &[u8]) -> Sided
     ensures { λ r. ⌜ SideRead (now (text .entry)) r ⌝ }
 {
-    if piece_end(text, 0, 32) != 1 {
+    let span = piece_at(text, 0, 32);
+    if span.end != 1 {
         return Sided::Malformed;
     }
     let letter = text[0];
@@ -55,14 +56,15 @@ fn read_field(text: &[u8], at: usize) -> Field
     if text.len() < at {
         return Field::Malformed;
     }
-    let end = piece_end(text, at, 32);
+    let span = piece_at(text, at, 32);
+    let end = span.end;
     let Number::Value(n) = read_number(&text[at..end]) else {
         return Field::Malformed;
     };
     if 65535 < n {
         return Field::Malformed;
     }
-    Field::Number(n as u16, end + 1)
+    Field::Number(n as u16, span.next)
 }
 
 // 01: "a step line that does not split into its five fields ends the reading".

@@ -7,7 +7,6 @@ use crate::faults::refused;
 use crate::stepping::take_end;
 use crate::stepping::take_step;
 use crate::terms::take_term;
-use text::pieces::piece_end;
 use text::pieces::starts_with;
 ghost use mathlib.Core.Path.{_≡_};
 ghost use mathlib.Core.Bool.{_||_};
