@@ -3,6 +3,7 @@
 
 mod files;
 mod plot;
+mod terms;
 
 use bench::Pair;
 use std::hint::black_box;
@@ -28,7 +29,21 @@ fn measure(pair: &mut Pair, file: &[u8]) -> (f64, f64) {
     (time(|| pair.proved(file)), time(|| pair.checker(file)))
 }
 
+/// The typing of single terms.
+fn typing() {
+    let (short, long) = (terms::Declared::short(), terms::Declared::long());
+    println!("| term | words | words an index | proved (µs) | checker (µs) | ratio |\n|---|---|---|---|---|---|");
+    for (name, is_long, text) in terms::table() {
+        let term = terms::Typed::of(if is_long { &long } else { &short }, &text);
+        assert_eq!(term.proved(), term.checker(), "{name}: both find one depth");
+        let (ours, theirs) = (time(|| term.proved()), time(|| term.checker()));
+        println!("| {name} | {} | {} | {ours:.2} | {theirs:.2} | {:.2} |", term.length(), if is_long { 63 } else { 1 }, ours / theirs);
+    }
+    println!();
+}
+
 fn main() {
+    typing();
     let mut pair = Pair::default();
     println!("| file | bytes | code | proved (µs) | checker (µs) | ratio |\n|---|---|---|---|---|---|");
     for (name, file) in files::table() {

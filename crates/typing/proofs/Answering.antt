@@ -1,29 +1,32 @@
 -- The tests of the typing of one term, one after the other, and what its answer says by the published rules.
 use mathlib.Core.Path.{_≡_, refl, sym, _∙_, ap}
-use mathlib.Core.Bool.{Bool, true, false, and-eq-true-iff}
+use mathlib.Core.Bool.{true, false, cond, and-eq-true-iff}
 use mathlib.Core.Logic.{_≢_}
-use mathlib.Core.List.{List}
-use Prim.Native.Nat.{ℕ, _≤_, _<_}
+use mathlib.Core.List.{List, [], _∷_, _++_}
+use Prim.Native.Nat.{ℕ, zero, suc, _+_, _≤_, _<_}
+use native.Mathlib.Omega.{arith}
 use borrow.Author.Tests.{eq-eqb, ne-eqb, leb-true}
-use lib.Dec.{leb}
-use lib.ListN.{length, take}
+use lib.Dec.{eqb, leb}
+use lib.ListN.{length, take, drop, replicate}
+use lib.Seq.{length-take-le}
+use Rattle.words.specs.Words.{overlaid}
 use Rattle.term.specs.declared.terms.Names.{Names}
 use Rattle.term.specs.Parts.{parse, first, part, treeIn}
 use Rattle.term.specs.Terms.{maxWords, maxDepth, firstDepth, partDepth, IsTerm, isTerm}
 use Rattle.term.specs.Trees.{Tree, none, _▹_, words, depth}
 use Rattle.term.proofs.Parsing.{parse-tree, some-words}
 use Rattle.term.proofs.TermTest.{term-tree}
-use Rattle.typing.specs.declared.infer.Verdict as Answer
 use Rattle.typing.specs.declared.sorts.Sorted as S
+use Rattle.typing.specs.declared.terms.Kind as K
 use Rattle.typing.specs.declared.terms.Kind.the-variants as Kinds
-use Rattle.typing.specs.Answers.{typeRecord, refuse, typing, answerOf, typingOf}
-use Rattle.typing.specs.Code.Accepting.{accept, answerTo}
+use Rattle.typing.specs.declared.terms.Typing as A
+use Rattle.typing.specs.Answers.{pad, typeRecord, refuse, typing, answerOf, typingOf}
 use Rattle.declarations.specs.Declarations.{contextIn, namesIn, goodDeclarations}
-use Rattle.typing.specs.Code.Records.{numberOf, indexOf, noIndex, sortedOf}
+use Rattle.declarations.proofs.Entries.{taken, taken-is, length-taken}
 use Rattle.types.specs.Sorts.{Sort, index, basis, scalar, ket, bra, operator}
-use Rattle.types.specs.TypeOf.{Typed, typed, typeOf}
-use Rattle.typing.specs.Code.Verdicts.{verdictOf}
-use Rattle.typing.proofs.Verdicts.{says-typed, says-untyped}
+use Rattle.types.specs.TypeOf.{typed, typeOf}
+use Rattle.typing.specs.Code.Shapes.{shapeOf, run, sizes, numberOf, Lies}
+use Rattle.typing.proofs.Lying.{lies-split}
 
 -- the words that pass test 8 are those of a term
 pub record Here (N : Names) (ws : List ℕ) (n : ℕ) : Type 0 where
@@ -51,16 +54,9 @@ module _ {N : Names} {ws : List ℕ} {n : ℕ} (h : Here N ws n) where
   unfolding part first
   here-part = rw (h .parsed) (some-words (h .tree))
 
-  pub here-depth : partDepth (take n ws) 0 ≡ depth (h .tree)
-  unfolding partDepth firstDepth
-  here-depth = rw (h .parsed)
-
   pub here-shallow : partDepth (take n ws) 0 ≤ maxDepth
-  here-shallow = rw here-depth (h .term .shallow)
-
--- the test that the code made, of the names that it was told
-pub term-test : (N M : Names) (ws : List ℕ) (n : ℕ) → M ≡ N → (b : Bool) → b ≡ isTerm M ws n → isTerm N ws n ≡ b
-term-test N M ws n e b h = rw (← e) (sym h)
+  unfolding partDepth firstDepth
+  here-shallow = rw (h .parsed) (h .term .shallow)
 
 -- ---- the tests in their order: the first that fails decides
 module _ (ds ws : List ℕ) (n : ℕ) where
@@ -83,31 +79,42 @@ module _ (ds ws : List ℕ) (n : ℕ) where
       unfolding typingOf
       the-term h = rw (eq-eqb _ _ size, good, h)
 
+-- ---- words laid over zeros are the words with zeros behind
+zeros : (m k : ℕ) → m ≤ k → replicate {A = ℕ} m 0 ≡ take m (replicate k 0)
+zeros zero k h = refl
+zeros (suc m) zero h = absurd (omega arith)
+zeros (suc m) (suc k) h = rw (zeros m k (omega arith))
+
+over-zeros : (ws : List ℕ) (m k : ℕ) → length ws ≤ m → m ≤ k → take m ws ++ drop (length ws) (replicate m 0) ≡ take m (ws ++ replicate k 0)
+over-zeros [] zero k h l = refl
+over-zeros [] (suc m) k h l = zeros (suc m) k l
+over-zeros (w ∷ ws) zero k h l = absurd (omega arith)
+over-zeros (w ∷ ws) (suc m) k h l = rw (over-zeros ws m k (omega arith) (omega arith))
+
+padded : (src : List ℕ) → length src ≤ 63 → overlaid (replicate 63 0) src ≡ pad src
+unfolding overlaid pad
+padded src h = over-zeros src 63 63 h (omega arith)
+
+pub accepts : (n d : ℕ) (k : K.Kind) (st : List ℕ) (l m : ℕ) (rows columns : List ℕ) → (l ≤ 63) × (m ≤ 63) × (126 ≤ length st) → rows ≡ overlaid (replicate 63 0) (take l st)
+    → columns ≡ overlaid (replicate 63 0) (taken st l m)
+    → _≡_ {A = A.Typing} (record { code = 0; side = 0; step = 0; at = 0; length = n; depth = d; of = record { kind = k; rows = rows; columns = columns } }) (typing n d k (take l st) (take m (drop l st)))
+unfolding typing typeRecord
+accepts n d k st l m rows columns h e f =
+    let x = length-take-le l st (omega arith) in
+    let y = length-taken st l m (omega arith) in
+    rw (e, f, padded (take l st) (omega arith), padded (taken st l m) (omega arith), taken-is st l m)
+
 -- ---- the answer by the number of the class
-module _ (n d : ℕ) (s : S.Sorted) where
-  pub scalar-answer : numberOf (s .class) ≡ 3 → answerTo n d s ≡ accept n d Kinds.Scalar s
-  unfolding answerTo
-  scalar-answer h = rw h
+unfoldable pub answerBy : ℕ → ℕ → ℕ → ℕ → ℕ → List ℕ → List ℕ → A.Typing
+answerBy n d k l r xs ys =
+    cond (eqb k 3) (typing n d Kinds.Scalar xs ys)
+    (cond (eqb k 4) (typing n d (Kinds.Ket l) xs ys)
+    (cond (eqb k 5) (typing n d (Kinds.Bra r) xs ys)
+    (cond (eqb k 6) (typing n d (Kinds.Operator l r) xs ys) (refuse 11 0))))
 
-  pub ket-answer : numberOf (s .class) ≡ 4 → answerTo n d s ≡ accept n d (Kinds.Ket (s .left .len)) s
-  unfolding answerTo
-  ket-answer h = rw h
-
-  pub bra-answer : numberOf (s .class) ≡ 5 → answerTo n d s ≡ accept n d (Kinds.Bra (s .right .len)) s
-  unfolding answerTo
-  bra-answer h = rw h
-
-  pub operator-answer : numberOf (s .class) ≡ 6 → answerTo n d s ≡ accept n d (Kinds.Operator (s .left .len) (s .right .len)) s
-  unfolding answerTo
-  operator-answer h = rw h
-
-  pub other-answer : numberOf (s .class) ≢ 3 → numberOf (s .class) ≢ 4 → numberOf (s .class) ≢ 5 → numberOf (s .class) ≢ 6 → answerTo n d s ≡ refuse 11 0
-  unfolding answerTo
-  other-answer a b c e = rw (ne-eqb _ _ a, ne-eqb _ _ b, ne-eqb _ _ c, ne-eqb _ _ e)
-
--- ---- the answer from the record that the code holds of a part
-sort-answer : (n d : ℕ) (S : Sort) → answerTo n d (sortedOf S) ≡ answerOf n d (typed S)
-unfolding answerTo answerOf accept typing typeRecord sortedOf indexOf noIndex
+sort-answer : (n d : ℕ) (T : Sort)
+    → answerBy n d (numberOf (shapeOf T .class)) (length (shapeOf T .left)) (length (shapeOf T .right)) (shapeOf T .left) (shapeOf T .right) ≡ answerOf n d (typed T)
+unfolding answerOf answerBy
 sort-answer n d (index σ) = refl
 sort-answer n d (basis σ) = refl
 sort-answer n d scalar = refl
@@ -115,13 +122,10 @@ sort-answer n d (ket σ) = refl
 sort-answer n d (bra σ) = refl
 sort-answer n d (operator σ τ) = refl
 
-pub typed-answer : (m n d e : ℕ) (T : Typed) (v : Answer.Verdict) → v ≡ verdictOf m T → v .typed ≡ true → d ≡ e → answerTo n d (v .sorted) ≡ answerOf n e T
-typed-answer m n d e T v is h same =
-    let u = says-typed m T v is h in
-    rw (u .1, ← same) (ap (answerTo n d) (u .2) ∙ sort-answer n d (u .0))
-
-pub untyped-answer : (m n d : ℕ) (T : Typed) (v : Answer.Verdict) → v ≡ verdictOf m T → v .typed ≡ false → refuse 10 (v .at) ≡ answerOf n d T
-unfolding answerOf
-untyped-answer m n d T v is h =
-    let u = says-untyped m T v is h in
-    rw (u .1) (ap (refuse 10) (u .2))
+-- with the words at the bottom of the stack
+pub answered-on : (n d : ℕ) (s : S.Sorted) (st : List ℕ) (r : A.Typing) → r ≡ answerBy n d (numberOf (s .class)) (s .left) (s .right) (take (s .left) st) (take (s .right) (drop (s .left) st))
+    → (T : Sort) → s ≡ sizes (shapeOf T) → Lies st 0 (run (shapeOf T)) → r ≡ answerOf n d (typed T)
+answered-on n d s st r e T is l =
+    let p = lies-split st 0 (shapeOf T .left) (shapeOf T .right) l in
+    let z : 0 + length (shapeOf T .left) ≡ length (shapeOf T .left) = omega arith in
+    e ∙ rw (is, p .0, rw z at (p .1)) (sort-answer n d T)

@@ -1,12 +1,15 @@
 -- The laws of typing that the crates above cite.
-pub mod Records
-pub mod OnRecords
-pub mod Children
-mod Laid
-mod Walk
-mod Walked
+mod Lying
+mod OnShapes
+mod Children
 mod Leaves
-mod Verdicts
+mod Concluding
+mod Alike
+mod Putting
+mod Walk
+mod Passing
+mod Walked
+mod Deciding
 mod Answering
 pub mod Theorems
 mod Samples

@@ -15,7 +15,6 @@ use Rattle.term.proofs.TermTest.{term-in, tree-term}
 use Rattle.typing.specs.declared.terms.Typing as A
 use Rattle.typing.specs.Answers.{refuse, answerOf, typingOf, HeldTerm, TypedTerm}
 use Rattle.declarations.specs.Declarations.{contextIn, namesIn, goodDeclarations}
-use Rattle.types.specs.First.{HasSort, FirstUntyped}
 use Rattle.types.specs.Rules.{_⊢_∶_, IsType}
 use Rattle.types.specs.Sorts.{Sort, index, basis, scalar, ket, bra, operator}
 use Rattle.types.specs.TypeOf.{Typed, typed, untyped, typeOf}

@@ -1,5 +1,4 @@
 -- How the code does it: nothing here is needed to read the promise of `type_term`.
-pub mod Records
+pub mod Shapes
 pub mod Conclude
 pub mod Verdicts
-pub mod Accepting

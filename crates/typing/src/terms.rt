@@ -5,18 +5,20 @@ use crate::sorts::number;
 use declarations::are_good;
 use declarations::names_of;
 use term::heads::Class;
-use term::terms::depth_at;
+use term::terms::all_declared;
 use term::terms::is_term;
+use words::copy_words;
 ghost use mathlib.Core.Path.{_≡_};
 ghost use mathlib.Core.Bool.{true};
-ghost use Prim.Native.Nat.{_≤_, _<_};
-ghost use lib.ListN.{length};
-ghost use Rattle.term.specs.Parts.{parse, part, treeIn};
+ghost use Prim.Native.Nat.{_≤_};
+ghost use lib.ListN.{length, take, drop};
 ghost use Rattle.term.specs.Terms.{partDepth};
-ghost use Rattle.types.specs.TypeOf.{typeOf};
-ghost use Rattle.declarations.specs.Declarations.{contextIn, goodDeclarations};
-ghost use Rattle.typing.specs.Answers.{sizesOf, refuse, answerOf, typingOf};
-ghost use Rattle.typing.specs.Code.Accepting.{accept, answerTo};
+ghost use Rattle.types.specs.Sorts.{Sort};
+ghost use Rattle.types.specs.TypeOf.{typed};
+ghost use Rattle.declarations.specs.Declarations.{goodDeclarations};
+ghost use Rattle.typing.specs.Answers.{sizesOf, refuse, typing, answerOf, typingOf};
+ghost use Rattle.typing.specs.Code.Shapes.{shapeOf, run, sizes, Lies, Small};
+ghost use Rattle.typing.specs.Code.Verdicts.{room, typingIn};
 
 // The kind of a type, with the lengths of its indices.
 pub enum Kind {
@@ -96,19 +98,22 @@ fn refused_with(code: usize, at: usize) -> Typing
     }
 }
 
-fn accepted(length: usize, depth: usize, kind: Kind, s: Sorted) -> Typing
-    ensures { λ r. ⌜ r ≡ accept length depth kind s ⌝ }
+// A type whose indices are the first `n` words of the stack and the `m` words behind them.
+fn accepted(size: usize, depth: usize, kind: Kind, stack: &[u16], n: usize, m: usize) -> Typing
+    requires { ⌜ (n ≤ 63) × (m ≤ 63) × (126 ≤ length (now stack)) ⌝ }
+    ensures { λ r. ⌜ r ≡ typing size depth kind (take n (now (stack .entry))) (take m (drop n (now (stack .entry)))) ⌝ }
 {
-    let left = s.left;
-    let right = s.right;
-    let rows = left.words;
-    let columns = right.words;
+    let mut rows = [0u16; 63];
+    let mut columns = [0u16; 63];
+    let end = n + m;
+    copy_words(&mut rows, &stack[..n]);
+    copy_words(&mut columns, &stack[n..end]);
     Typing {
         code: 0,
         side: 0,
         step: 0,
         at: 0,
-        length,
+        length: size,
         depth,
         of: TermType {
             kind,
@@ -118,42 +123,58 @@ fn accepted(length: usize, depth: usize, kind: Kind, s: Sorted) -> Typing
     }
 }
 
-// A sort is a type unless it is an index or a basis.
-fn answered(length: usize, depth: usize, s: Sorted) -> Typing
-    ensures { λ r. ⌜ r ≡ answerTo length depth s ⌝ }
+// A sort is a type unless it is an index or a basis. Its words stand at the bottom of the stack.
+fn answered(size: usize, depth: usize, stack: &[u16], s: Sorted) -> Typing
+    requires { ⌜ Small s × (126 ≤ length (now stack)) ⌝ }
+    ensures { λ r. ⌜ ((S : Sort) → s ≡ sizes (shapeOf S) → Lies (now (stack .entry)) 0 (run (shapeOf S)) → r ≡ answerOf size depth (typed S)) ⌝ }
 {
     let class = s.class;
-    let left = s.left;
-    let right = s.right;
-    let rows = left.len;
-    let columns = right.len;
+    let rows = s.left;
+    let columns = s.right;
     let k = number(class);
-    if k == number(Class::Scalar) {
-        return accepted(length, depth, Kind::Scalar, s);
+    if k == 3 {
+        return accepted(size, depth, Kind::Scalar, stack, rows, columns);
     }
-    if k == number(Class::Ket) {
-        return accepted(length, depth, Kind::Ket(rows), s);
+    if k == 4 {
+        return accepted(size, depth, Kind::Ket(rows), stack, rows, columns);
     }
-    if k == number(Class::Bra) {
-        return accepted(length, depth, Kind::Bra(columns), s);
+    if k == 5 {
+        return accepted(size, depth, Kind::Bra(columns), stack, rows, columns);
     }
-    if k == number(Class::Operator) {
-        return accepted(length, depth, Kind::Operator(rows, columns), s);
+    if k == 6 {
+        return accepted(
+            size,
+            depth,
+            Kind::Operator(rows, columns),
+            stack,
+            rows,
+            columns,
+        );
     }
     refused_with(11, 0)
 }
 
-// What a whole part with which `ws` begins is found to be; `n` is its length. The declarations were tested, and the part is no deeper than a term.
-fn typed_as(ds: &[u16], ws: &[u16], n: usize) -> Typing
-    requires { ⌜ (goodDeclarations (now ds) ≡ true) × (0 < length (part (now ws) 0)) × (partDepth (now ws) 0 ≤ 64) ⌝ }
-    ensures { λ r. ⌜ r ≡ answerOf n (partDepth (now (ws .entry)) 0) (typeOf (contextIn (now (ds .entry))) 0 (treeIn (parse (now (ws .entry))))) ⌝ }
+// What all of some words are found to be, in one walk where they are typed. The declarations were tested.
+fn typed_on(ds: &[u16], ws: &[u16], stack: &mut [u16], budget: usize) -> Typing
+    requires { ⌜ (goodDeclarations (now ds) ≡ true) × (length (now ws) ≤ 4096) × (room budget ≤ length (now stack)) × (budget ≤ 64) × (partDepth (now ws) 0 ≤ 64 → partDepth (now ws) 0 ≤ budget) ⌝ }
+    ensures { λ r. ⌜ r ≡ typingIn (now (ds .entry)) (now (ws .entry)) ⌝ }
 {
-    let found = type_part(ds, ws, 64);
-    if !found.typed {
-        return refused_with(10, found.at);
+    let n = ws.len();
+    let found = type_part(ds, ws, stack, 0, budget);
+    if found.typed {
+        if found.size != n {
+            return refused_with(8, 0);
+        }
+        if !all_declared(names_of(ds), ws) {
+            return refused_with(8, 0);
+        }
+        let sorted = found.sorted;
+        return answered(n, found.depth, stack, sorted);
     }
-    let sorted = found.sorted;
-    answered(n, depth_at(ws, 0), sorted)
+    if !is_term(names_of(ds), ws, n) {
+        return refused_with(8, 0);
+    }
+    refused_with(10, found.at)
 }
 
 // The type of the term in the first `n` words of a work slice, under declarations. Nothing is relied on: the tests are 1, 7, 8, 10 and 11.
@@ -166,8 +187,14 @@ pub fn type_term(ds: &[u16], ws: &[u16], n: usize) -> Typing
     if !are_good(ds) {
         return refused_with(7, 0);
     }
-    if !is_term(names_of(ds), ws, n) {
+    if 4096 < n {
         return refused_with(8, 0);
     }
-    typed_as(ds, &ws[..n], n)
+    // a term of few words is not deep, and to clear a large stack would take longer than to type it
+    if n <= 16 {
+        let mut stack = [0u16; 2289];
+        return typed_on(ds, &ws[..n], &mut stack, 16);
+    }
+    let mut stack = [0u16; 8385];
+    typed_on(ds, &ws[..n], &mut stack, 64)
 }

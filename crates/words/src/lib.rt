@@ -15,16 +15,23 @@ pub fn clear_from(ws: &mut [u16], at: usize)
     }
 }
 
-// Copies `src` over the front of `dst`, as many words as both have, and says how many.
+fn lesser(a: usize, b: usize) -> usize
+    ensures { λ r. ⌜ r ≡ min a b ⌝ }
+{
+    if a < b { a } else { b }
+}
+
+// Copies `src` over the front of `dst`, as many words as both have, and says how many. The loop has one test, so that it is compiled to copies of many words.
 pub fn copy_words(dst: &mut [u16], src: &[u16]) -> usize
     ensures { λ r. ⌜ (r ≡ min (length (now (dst .entry))) (length (now (src .entry)))) × (now (dst .exit) ≡ overlaid (now (dst .entry)) (now (src .entry))) ⌝ }
 {
+    let n = lesser(dst.len(), src.len());
     let mut i = 0;
-    while i < dst.len() && i < src.len() {
+    while i < n {
         dst[i] = src[i];
         i += 1;
     }
-    i
+    n
 }
 
 // The first offset at which two runs differ; the shorter's length where it is a prefix of the other.

@@ -1,20 +1,22 @@
--- The invariant: the first `i` words of `dst` are `src`'s, the others and the length are as they were, and `i` is at most either length. The measure is what is left of `dst`'s.
+-- The invariant: the first `i` words of `dst` are `src`'s, the others and the length are as they were, and `i` is at most the shorter length. The measure is what is left of it.
 use mathlib.Core.Path.{_≡_, sym, _∙_}
 use mathlib.Core.List.{_++_}
 use Prim.Native.Nat.{_-_, _≤_, _<_, min}
 use native.Mathlib.Omega.{arith}
 use borrow.Author.Needs.{needs}
-use borrow.Author.Tests.{ltb-true, ltb-false}
 use lib.ListN.{length, take, drop, length-set}
 use Rattle.words.proofs.Runs.{overlaid-is, copied-more}
 use Rattle.words.proofs.copy_words.Statement.{statement}
 use Rattle.words.proofs.copy_words.Tie as tie
 
 abbrev Inv-loop : tie.InvT-loop
-Inv-loop dst₀ src i₀ dst i = (i ≤ length dst₀) × (i ≤ length src) × (length dst ≡ length dst₀) × (dst ≡ take i src ++ drop i dst₀)
+Inv-loop dst₀ src n i₀ dst i = (n ≡ min (length dst₀) (length src)) × (i ≤ n) × (length dst ≡ length dst₀) × (dst ≡ take i src ++ drop i dst₀)
 
 abbrev μ-loop : tie.MeasureT-loop
-μ-loop dst₀ src i₀ dst i = length dst₀ - i
+μ-loop dst₀ src n i₀ dst i = n - i
+
+lesser-requires : tie.Need-lesser-requires Inv-loop μ-loop
+lesser-requires c κs = search needs
 
 loop-holds : tie.Need-loop-holds Inv-loop μ-loop
 loop-holds c = search needs
@@ -39,31 +41,23 @@ loop-less c = search needs
 
 loop-again : tie.Need-loop-again Inv-loop μ-loop
 loop-again c =
-    let loop = c .before .before .before .loop in
-    let args = c .before .before .before .before .args in
+    let loop = c .before .before .loop in
+    let args = c .before .before .before .before .before .before .args in
+    let n = loop .inv .0 in
     let d : loop .i < length (args .dst .now) = omega arith in
-    let s : loop .i < length (args .src .now) = omega (arith, ltb-true) in
-    (omega arith, omega arith, simp length-set (loop .inv .2), cc (copied-more _ _ _ d s))
+    let s : loop .i < length (args .src .now) = omega arith in
+    (n, omega arith, simp length-set (loop .inv .2), cc (copied-more _ _ _ d s))
 
 same-length : tie.Need-same-length Inv-loop μ-loop
 same-length c = search needs
 
 returns : tie.Need-returns Inv-loop μ-loop
 returns c =
-    let loop = c .before .before .loop in
-    let args = c .before .before .before .args in
-    let n : loop .i ≡ min (length (args .dst .now)) (length (args .src .now)) = omega (arith, ltb-false) in
-    (n, loop .inv .3 ∙ sym (overlaid-is _ _ _ n))
-
-same-length-2 : tie.Need-same-length-2 Inv-loop μ-loop
-same-length-2 c = search needs
-
-returns-2 : tie.Need-returns-2 Inv-loop μ-loop
-returns-2 c =
     let loop = c .before .loop in
-    let args = c .before .before .args in
-    let n : loop .i ≡ min (length (args .dst .now)) (length (args .src .now)) = omega arith in
-    (n, loop .inv .3 ∙ sym (overlaid-is _ _ _ n))
+    let args = c .before .before .before .before .before .args in
+    let n = loop .inv .0 in
+    let z : loop .i ≡ min (length (args .dst .now)) (length (args .src .now)) = omega arith in
+    (n, loop .inv .3 ∙ sym (overlaid-is _ _ _ z))
 
 pub copy-words-spec : {M : Type 1} → statement M
 copy-words-spec =
@@ -71,6 +65,7 @@ copy-words-spec =
     (tie.spec
     Inv-loop
     μ-loop
+    lesser-requires
     loop-holds
     mul-dst
     shared-slice-read-dst
@@ -80,6 +75,4 @@ copy-words-spec =
     loop-less
     loop-again
     same-length
-    returns
-    same-length-2
-    returns-2)
+    returns)

@@ -1,7 +1,7 @@
 -- The first child's class is tested, then whether the others are like it.
-use mathlib.Core.Path.{sym, _∙_}
+use mathlib.Core.Path.{refl}
+use Rattle.typing.proofs.Concluding.{fit, sum-fits, sum-unfit}
 use borrow.Author.Needs.{needs}
-use Rattle.typing.specs.Code.Conclude.{likeOf}
 use Rattle.typing.proofs.conclude.conclude_sum.Statement.{statement}
 use Rattle.typing.proofs.conclude.conclude_sum.Tie as tie
 
@@ -12,22 +12,19 @@ fits-requires : tie.Need-fits-requires
 fits-requires c κs = search needs
 
 returns : tie.Need-returns
-unfolding likeOf
-returns c = rw (← c .before .before .before .child-class .ensures, sym (c .before .before .fits2 .ensures) ∙ c .before .if1 .taken, c .if2 .taken)
+returns c = sum-fits _ (fit (c .before .before .before .child-class .ensures) (c .before .before .fits2 .ensures) (c .before .if1 .taken)) (c .if2 .taken) refl
 
 untyped-requires : tie.Need-untyped-requires
 untyped-requires c κs = search needs
 
 returns-2 : tie.Need-returns-2
-unfolding likeOf
-returns-2 c = rw (c .untyped .ensures, ← c .before .before .before .before .child-class .ensures, sym (c .before .before .before .fits2 .ensures) ∙ c .before .before .if1 .taken, c .before .if2 .left)
+returns-2 c = sum-fits _ (fit (c .before .before .before .before .child-class .ensures) (c .before .before .before .fits2 .ensures) (c .before .before .if1 .taken)) (c .before .if2 .left) (c .untyped .ensures)
 
 untyped-requires-2 : tie.Need-untyped-requires-2
 untyped-requires-2 c κs = search needs
 
 returns-3 : tie.Need-returns-3
-unfolding likeOf
-returns-3 c = rw (c .untyped2 .ensures, ← c .before .before .before .child-class .ensures, sym (c .before .before .fits2 .ensures) ∙ c .before .if1 .left)
+returns-3 c = sum-unfit _ (fit (c .before .before .before .child-class .ensures) (c .before .before .fits2 .ensures) (c .before .if1 .left)) (c .untyped2 .ensures)
 
 pub conclude-sum-spec : {M : Type 1} → statement M
 conclude-sum-spec =

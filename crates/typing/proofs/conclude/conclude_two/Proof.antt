@@ -1,7 +1,7 @@
 -- The children's classes are tested, then the head decides.
-use mathlib.Core.Path.{sym, _∙_}
+use mathlib.Core.Path.{refl}
+use Rattle.typing.proofs.Concluding.{fit, two-fit, two-first, two-second}
 use borrow.Author.Needs.{needs}
-use Rattle.typing.specs.Code.Conclude.{twoOf}
 use Rattle.typing.proofs.conclude.conclude_two.Statement.{statement}
 use Rattle.typing.proofs.conclude.conclude_two.Tie as tie
 
@@ -20,23 +20,23 @@ fits-requires-2 c κs = search needs
 binary-requires : tie.Need-binary-requires
 binary-requires c κs = search needs
 
+same-length : tie.Need-same-length
+same-length c = search needs
+
 returns : tie.Need-returns
-unfolding twoOf
-returns c = rw (c .binary .ensures, ← c .before .before .before .before .before .before .child-class .ensures, sym (c .before .before .before .before .before .fits2 .ensures) ∙ c .before .before .before .before .if1 .taken, ← c .before .before .before .child-class2 .ensures, sym (c .before .before .fits3 .ensures) ∙ c .before .if2 .taken)
+returns c = (search needs, two-fit (fit (c .before .before .before .before .before .before .before .before .before .child-class .ensures) (c .before .before .before .before .before .before .before .before .fits2 .ensures) (c .before .before .before .before .before .before .before .if1 .taken)) (fit (c .before .before .before .before .before .before .child-class2 .ensures) (c .before .before .before .before .before .fits3 .ensures) (c .before .before .before .before .if2 .taken)) (c .before .before .binary .ensures .1))
 
 untyped-requires : tie.Need-untyped-requires
 untyped-requires c κs = search needs
 
 returns-2 : tie.Need-returns-2
-unfolding twoOf
-returns-2 c = rw (c .untyped .ensures, ← c .before .before .before .before .before .before .child-class .ensures, sym (c .before .before .before .before .before .fits2 .ensures) ∙ c .before .before .before .before .if1 .taken, ← c .before .before .before .child-class2 .ensures, sym (c .before .before .fits3 .ensures) ∙ c .before .if2 .left)
+returns-2 c = (refl, two-second (fit (c .before .before .before .before .before .before .child-class .ensures) (c .before .before .before .before .before .fits2 .ensures) (c .before .before .before .before .if1 .taken)) (fit (c .before .before .before .child-class2 .ensures) (c .before .before .fits3 .ensures) (c .before .if2 .left)) (c .untyped .ensures))
 
 untyped-requires-2 : tie.Need-untyped-requires-2
 untyped-requires-2 c κs = search needs
 
 returns-3 : tie.Need-returns-3
-unfolding twoOf
-returns-3 c = rw (c .untyped2 .ensures, ← c .before .before .before .child-class .ensures, sym (c .before .before .fits2 .ensures) ∙ c .before .if1 .left)
+returns-3 c = (refl, two-first (fit (c .before .before .before .child-class .ensures) (c .before .before .fits2 .ensures) (c .before .if1 .left)) (c .untyped2 .ensures))
 
 pub conclude-two-spec : {M : Type 1} → statement M
 conclude-two-spec =
@@ -47,6 +47,7 @@ conclude-two-spec =
     child-class-requires-2
     fits-requires-2
     binary-requires
+    same-length
     returns
     untyped-requires
     returns-2

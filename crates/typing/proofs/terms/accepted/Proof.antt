@@ -1,11 +1,57 @@
-use mathlib.Core.Path.{refl}
-use Rattle.typing.specs.Code.Accepting.{accept}
+-- The words laid over zeros are the words with zeros behind.
+use mathlib.Core.Path.{sym}
+use native.Mathlib.Omega.{arith}
+use borrow.Author.Needs.{needs}
+use lib.Seq.{length-take-le}
+use Rattle.typing.proofs.Answering.{accepts}
 use Rattle.typing.proofs.terms.accepted.Statement.{statement}
 use Rattle.typing.proofs.terms.accepted.Tie as tie
 
+add-end : tie.Need-add-end
+add-end c = search needs
+
+slice-aggregate-copy-words : tie.Need-slice-aggregate-copy-words
+slice-aggregate-copy-words c = search needs
+
+slice-aggregate-copy-words-2 : tie.Need-slice-aggregate-copy-words-2
+slice-aggregate-copy-words-2 c = sym (length-take-le _ _ (omega arith))
+
+copy-words-requires : tie.Need-copy-words-requires
+copy-words-requires c κs = search needs
+
+slice-aggregate-copy-words-3 : tie.Need-slice-aggregate-copy-words-3
+slice-aggregate-copy-words-3 c = search needs
+
+mul-copy-words : tie.Need-mul-copy-words
+mul-copy-words c = search needs
+
+sub-copy-words : tie.Need-sub-copy-words
+sub-copy-words c = search needs
+
+part-copy-words-start : tie.Need-part-copy-words-start
+part-copy-words-start c = search needs
+
+part-copy-words-end : tie.Need-part-copy-words-end
+part-copy-words-end c = search needs
+
+copy-words-requires-2 : tie.Need-copy-words-requires-2
+copy-words-requires-2 c κs = search needs
+
 returns : tie.Need-returns
-unfolding accept
-returns c = refl
+returns c = accepts _ _ _ _ _ _ _ _ (c .before .before .before .before .before .before .before .before .before .pre) (c .before .before .before .before .before .copy-words .ensures .1) (c .before .copy-words2 .ensures .1)
 
 pub accepted-spec : {M : Type 1} → statement M
-accepted-spec = tie.close (tie.spec returns)
+accepted-spec =
+    tie.close
+    (tie.spec
+    add-end
+    slice-aggregate-copy-words
+    slice-aggregate-copy-words-2
+    copy-words-requires
+    slice-aggregate-copy-words-3
+    mul-copy-words
+    sub-copy-words
+    part-copy-words-start
+    part-copy-words-end
+    copy-words-requires-2
+    returns)

@@ -1,0 +1,107 @@
+-- What the walk found of some words decides the answer for them.
+use mathlib.Core.Path.{_≡_, sym, _∙_}
+use mathlib.Core.Logic.{_≢_}
+use mathlib.Core.Bool.{Bool, true, false, not}
+use mathlib.Core.List.{List}
+use Prim.Native.Nat.{ℕ, _≤_, _<_}
+use native.Mathlib.Omega.{arith}
+use borrow.Author.Tests.{eq-eqb, not-true, not-false}
+use lib.ListN.{length, take, drop, length-append}
+use lib.Seq.{length-take-le, take-length}
+use Rattle.term.specs.declared.terms.Names.{Names}
+use Rattle.term.specs.Parts.{parse, first, part, treeIn}
+use Rattle.term.specs.Terms.{maxWords, maxDepth, firstDepth, partDepth, allDeclared, termWords, isTerm}
+use Rattle.term.specs.Trees.{Tree, Forest, node, none, _▹_, words, words*, depth, depth*}
+use Rattle.term.proofs.Scan.{part-length}
+use Rattle.term.proofs.TermTest.{term-in, term-end, term-names}
+use Rattle.declarations.specs.Declarations.{contextIn, namesIn, goodDeclarations}
+use Rattle.declarations.proofs.Entries.{well-formed}
+use Rattle.types.specs.Sorts.{Sort}
+use Rattle.types.specs.TypeOf.{typed, typeOf}
+use Rattle.typing.specs.declared.infer.Verdict as Answer
+use Rattle.typing.specs.declared.terms.Typing as A
+use Rattle.typing.specs.Answers.{refuse, answerOf, typingOf}
+use Rattle.typing.specs.Code.Shapes.{shapeOf, run, sizes, Lies, Small}
+use Rattle.typing.specs.Code.Verdicts.{Found, typingIn}
+use Rattle.typing.proofs.Answering.{here, here-part, here-shallow}
+use Rattle.typing.proofs.OnShapes.{neat-small}
+use Rattle.typing.proofs.Walked.{neat}
+
+-- ---- a part is no deeper than its words are many
+mutual
+  unfolding depth words
+
+  depth-words : (t : Tree) → depth t ≤ length (words t)
+  depth-words (node l cs) = omega (arith, depth-words* cs)
+
+  depth-words* : (f : Forest) → depth* f ≤ length (words* f)
+  depth-words* none = omega arith
+  depth-words* (t ▹ f) = omega (arith, depth-words t, depth-words* f, length-append (words t) (words* f))
+
+depth-first : (f : Forest) → firstDepth f ≤ length (first f)
+unfolding firstDepth first
+depth-first none = omega arith
+depth-first (t ▹ f) = depth-words t
+
+pub depth-part : (ws : List ℕ) → partDepth ws 0 ≤ length ws
+unfolding partDepth part
+depth-part ws = omega (arith, depth-first (parse (drop 0 ws)), part-length ws 0)
+
+-- the answer for the first n words of a slice is that for those words
+pub within : (ds ws : List ℕ) (n : ℕ) → length ws ≡ maxWords → goodDeclarations ds ≡ true → n ≤ length ws → typingIn ds (take n ws) ≡ typingOf ds ws n
+unfolding typingIn typingOf
+within ds ws n size good inside = rw (eq-eqb _ _ size, good, term-in (namesIn ds) ws n inside, length-take-le n ws inside)
+
+module _ (ds ws : List ℕ) where
+  not-term : termWords (namesIn ds) ws ≡ false → typingIn ds ws ≡ refuse 8 0
+  unfolding typingIn
+  not-term e = rw e
+
+  the-term : termWords (namesIn ds) ws ≡ true → typingIn ds ws ≡ answerOf (length ws) (partDepth ws 0) (typeOf (contextIn ds) 0 (treeIn (parse ws)))
+  unfolding typingIn
+  the-term e = rw e
+
+  -- the test of all the words, of the names that the code was told
+  all-tested : {N : Names} {b : Bool} → N ≡ namesIn ds → b ≡ isTerm N ws (length ws) → isTerm (namesIn ds) ws (length ws) ≡ b
+  all-tested e t = rw (← e) (sym t)
+
+  all-words : isTerm (namesIn ds) ws (length ws) ≡ termWords (namesIn ds) ws
+  all-words = term-in (namesIn ds) ws (length ws) (omega arith) ∙ rw take-length
+
+module _ (ds : List ℕ) {ws : List ℕ} {v : Answer.Verdict} {st st′ : List ℕ} {budget : ℕ} (f : Found (contextIn ds) ws budget 0 v st st′) where
+  -- ---- a typed part
+  module _ (yes : v .typed ≡ true) (short : length ws ≤ maxWords) where
+    some : 0 < length ws
+    some = let s = f .settled yes in omega (arith, s .whole, part-length ws 0)
+
+    pub part-only : {r : A.Typing} → v .size ≢ length ws → r ≡ refuse 8 0 → r ≡ typingIn ds ws
+    part-only n t = t ∙ sym (not-term ds ws (term-end (namesIn ds) ws some short (λ e. n (f .settled yes .size ∙ e))))
+
+    module _ (few : budget ≤ maxDepth) (all : v .size ≡ length ws) {N : Names} {b : Bool} (names : N ≡ namesIn ds) (test : b ≡ allDeclared N ws) where
+      all-named : termWords (namesIn ds) ws ≡ b
+      all-named = let s = f .settled yes in term-names (namesIn ds) ws some short (sym (s .size) ∙ all) (omega (arith, s .shallow)) ∙ rw (← names) (sym test)
+
+      pub undeclared : {r : A.Typing} → not b ≡ true → r ≡ refuse 8 0 → r ≡ typingIn ds ws
+      undeclared n t = t ∙ sym (not-term ds ws (all-named ∙ not-true b n))
+
+      pub typed-term : {r : A.Typing} → not b ≡ false → ((T : Sort) → v .sorted ≡ sizes (shapeOf T) → Lies st′ 0 (run (shapeOf T)) → r ≡ answerOf (length ws) (v .depth) (typed T)) → r ≡ typingIn ds ws
+      typed-term n t =
+          let s = f .settled yes in
+          t (s .sort) (s .sorted) (s .lies) ∙ sym (the-term ds ws (all-named ∙ not-false b n) ∙ rw (s .is, s .depth))
+
+  -- its indices are short
+  pub small-sort : goodDeclarations ds ≡ true → v .typed ≡ true → Small (v .sorted)
+  small-sort good is = let s = f .settled is in rw (s .sorted) (neat-small (s .sort) (neat (well-formed ds good) _ (s .sort) (s .is)))
+
+  -- ---- any other: no term, or one that has no type
+  module _ (no′ : v .typed ≡ false) {N : Names} {b : Bool} (names : N ≡ namesIn ds) (test : b ≡ isTerm N ws (length ws)) where
+    pub no-term : {r : A.Typing} → not b ≡ true → r ≡ refuse 8 0 → r ≡ typingIn ds ws
+    no-term n t = t ∙ sym (not-term ds ws (sym (all-words ds ws) ∙ all-tested ds ws names test ∙ not-true b n))
+
+    pub untyped-term : {r : A.Typing} → (partDepth ws 0 ≤ maxDepth → partDepth ws 0 ≤ budget) → not b ≡ false → r ≡ refuse 10 (v .at) → r ≡ typingIn ds ws
+    unfolding answerOf
+    untyped-term deep n t =
+        let e = all-tested ds ws names test ∙ not-false b n in
+        let h = here (namesIn ds) ws (length ws) e in
+        let u = f .unsettled no′ (rw take-length at (here-part h)) (deep (rw take-length at (here-shallow h))) in
+        t ∙ sym (the-term ds ws (sym (all-words ds ws) ∙ e) ∙ rw u)
