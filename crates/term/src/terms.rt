@@ -21,7 +21,8 @@ struct Extent {
     depth: usize,
 }
 
-fn larger(a: usize, b: usize) -> usize
+// The larger of two depths.
+pub fn larger(a: usize, b: usize) -> usize
     ensures { λ r. ⌜ r ≡ max a b ⌝ }
 {
     if a < b { b } else { a }

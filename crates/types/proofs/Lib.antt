@@ -4,3 +4,4 @@ pub mod Proper
 pub mod Sound
 pub mod Replace
 pub mod Place
+pub mod Walk

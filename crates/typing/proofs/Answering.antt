@@ -3,7 +3,7 @@ use mathlib.Core.Path.{_≡_, refl, sym, _∙_, ap}
 use mathlib.Core.Bool.{true, false, cond, and-eq-true-iff}
 use mathlib.Core.Logic.{_≢_}
 use mathlib.Core.List.{List, [], _∷_, _++_}
-use Prim.Native.Nat.{ℕ, zero, suc, _+_, _≤_, _<_}
+use Prim.Native.Nat.{ℕ, zero, suc, _+_, _-_, _≤_, _<_}
 use native.Mathlib.Omega.{arith}
 use borrow.Author.Tests.{eq-eqb, ne-eqb, leb-true}
 use lib.Dec.{eqb, leb}
@@ -22,11 +22,11 @@ use Rattle.typing.specs.declared.terms.Kind.the-variants as Kinds
 use Rattle.typing.specs.declared.terms.Typing as A
 use Rattle.typing.specs.Answers.{pad, typeRecord, refuse, typing, answerOf, typingOf}
 use Rattle.declarations.specs.Declarations.{contextIn, namesIn, goodDeclarations}
-use Rattle.declarations.proofs.Entries.{taken, taken-is, length-taken}
 use Rattle.types.specs.Sorts.{Sort, index, basis, scalar, ket, bra, operator}
 use Rattle.types.specs.TypeOf.{typed, typeOf}
-use Rattle.typing.specs.Code.Shapes.{shapeOf, run, sizes, numberOf, Lies}
-use Rattle.typing.proofs.Lying.{lies-split}
+use Rattle.typebook.specs.Shapes.{Shape, shapeOf, numberOf}
+use Rattle.typing.specs.Code.Shapes.{shapeAt, run, Small}
+use Rattle.typing.proofs.Lying.{run-length, run-taken}
 
 -- the words that pass test 8 are those of a term
 pub record Here (N : Names) (ws : List ℕ) (n : ℕ) : Type 0 where
@@ -96,13 +96,13 @@ unfolding overlaid pad
 padded src h = over-zeros src 63 63 h (omega arith)
 
 pub accepts : (n d : ℕ) (k : K.Kind) (st : List ℕ) (l m : ℕ) (rows columns : List ℕ) → (l ≤ 63) × (m ≤ 63) × (126 ≤ length st) → rows ≡ overlaid (replicate 63 0) (take l st)
-    → columns ≡ overlaid (replicate 63 0) (taken st l m)
+    → columns ≡ overlaid (replicate 63 0) (take (l + m - l) (drop l st))
     → _≡_ {A = A.Typing} (record { code = 0; side = 0; step = 0; at = 0; length = n; depth = d; of = record { kind = k; rows = rows; columns = columns } }) (typing n d k (take l st) (take m (drop l st)))
 unfolding typing typeRecord
 accepts n d k st l m rows columns h e f =
     let x = length-take-le l st (omega arith) in
-    let y = length-taken st l m (omega arith) in
-    rw (e, f, padded (take l st) (omega arith), padded (taken st l m) (omega arith), taken-is st l m)
+    let y = run-length st l m (omega arith) in
+    rw (e, f, run-taken, padded (take l st) (omega arith), padded (run st l m) (omega arith))
 
 -- ---- the answer by the number of the class
 unfoldable pub answerBy : ℕ → ℕ → ℕ → ℕ → ℕ → List ℕ → List ℕ → A.Typing
@@ -123,9 +123,13 @@ sort-answer n d (bra σ) = refl
 sort-answer n d (operator σ τ) = refl
 
 -- with the words at the bottom of the stack
-pub answered-on : (n d : ℕ) (s : S.Sorted) (st : List ℕ) (r : A.Typing) → r ≡ answerBy n d (numberOf (s .class)) (s .left) (s .right) (take (s .left) st) (take (s .right) (drop (s .left) st))
-    → (T : Sort) → s ≡ sizes (shapeOf T) → Lies st 0 (run (shapeOf T)) → r ≡ answerOf n d (typed T)
-answered-on n d s st r e T is l =
-    let p = lies-split st 0 (shapeOf T .left) (shapeOf T .right) l in
-    let z : 0 + length (shapeOf T .left) ≡ length (shapeOf T .left) = omega arith in
-    e ∙ rw (is, p .0, rw z at (p .1)) (sort-answer n d T)
+pub answered-on : (n d : ℕ) (s : S.Sorted) (st : List ℕ) (r : A.Typing) → Small s × (126 ≤ length st) → r ≡ answerBy n d (numberOf (s .class)) (s .left) (s .right) (take (s .left) st) (take (s .right) (drop (s .left) st))
+    → (T : Sort) → shapeAt st 0 s ≡ shapeOf T → r ≡ answerOf n d (typed T)
+answered-on n d s st r h e T is =
+    let z : 0 + s .left ≡ s .left = omega arith in
+    let x : take (s .left) st ≡ shapeOf T .left = ap (λ (x : Shape). x .left) is in
+    let y : take (s .right) (drop (s .left) st) ≡ shapeOf T .right = rw z at (ap (λ (x : Shape). x .right) is) in
+    let c : s .class ≡ shapeOf T .class = ap (λ (x : Shape). x .class) is in
+    let l : s .left ≡ length (shapeOf T .left) = sym (run-length st 0 (s .left) (omega arith)) ∙ ap length x in
+    let m : s .right ≡ length (shapeOf T .right) = sym (run-length st (s .left) (s .right) (omega arith)) ∙ ap length y in
+    e ∙ rw (x, y, c, l, m) (sort-answer n d T)

@@ -15,17 +15,15 @@ use Rattle.term.specs.Trees.{Tree, Forest, node, none, _▹_, words, words*, de
 use Rattle.term.proofs.Scan.{part-length}
 use Rattle.term.proofs.TermTest.{term-in, term-end, term-names}
 use Rattle.declarations.specs.Declarations.{contextIn, namesIn, goodDeclarations}
-use Rattle.declarations.proofs.Entries.{well-formed}
 use Rattle.types.specs.Sorts.{Sort}
 use Rattle.types.specs.TypeOf.{typed, typeOf}
 use Rattle.typing.specs.declared.infer.Verdict as Answer
 use Rattle.typing.specs.declared.terms.Typing as A
 use Rattle.typing.specs.Answers.{refuse, answerOf, typingOf}
-use Rattle.typing.specs.Code.Shapes.{shapeOf, run, sizes, Lies, Small}
+use Rattle.typebook.specs.Shapes.{shapeOf}
+use Rattle.typing.specs.Code.Shapes.{shapeAt}
 use Rattle.typing.specs.Code.Verdicts.{Found, typingIn}
 use Rattle.typing.proofs.Answering.{here, here-part, here-shallow}
-use Rattle.typing.proofs.OnShapes.{neat-small}
-use Rattle.typing.proofs.Walked.{neat}
 
 -- ---- a part is no deeper than its words are many
 mutual
@@ -84,14 +82,10 @@ module _ (ds : List ℕ) {ws : List ℕ} {v : Answer.Verdict} {st st′ : List �
       pub undeclared : {r : A.Typing} → not b ≡ true → r ≡ refuse 8 0 → r ≡ typingIn ds ws
       undeclared n t = t ∙ sym (not-term ds ws (all-named ∙ not-true b n))
 
-      pub typed-term : {r : A.Typing} → not b ≡ false → ((T : Sort) → v .sorted ≡ sizes (shapeOf T) → Lies st′ 0 (run (shapeOf T)) → r ≡ answerOf (length ws) (v .depth) (typed T)) → r ≡ typingIn ds ws
+      pub typed-term : {r : A.Typing} → not b ≡ false → ((T : Sort) → shapeAt st′ 0 (v .sorted) ≡ shapeOf T → r ≡ answerOf (length ws) (v .depth) (typed T)) → r ≡ typingIn ds ws
       typed-term n t =
           let s = f .settled yes in
-          t (s .sort) (s .sorted) (s .lies) ∙ sym (the-term ds ws (all-named ∙ not-false b n) ∙ rw (s .is, s .depth))
-
-  -- its indices are short
-  pub small-sort : goodDeclarations ds ≡ true → v .typed ≡ true → Small (v .sorted)
-  small-sort good is = let s = f .settled is in rw (s .sorted) (neat-small (s .sort) (neat (well-formed ds good) _ (s .sort) (s .is)))
+          t (s .sort) (s .sorted) ∙ sym (the-term ds ws (all-named ∙ not-false b n) ∙ rw (s .is, s .depth))
 
   -- ---- any other: no term, or one that has no type
   module _ (no′ : v .typed ≡ false) {N : Names} {b : Bool} (names : N ≡ namesIn ds) (test : b ≡ isTerm N ws (length ws)) where

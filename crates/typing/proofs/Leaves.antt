@@ -13,15 +13,15 @@ use Rattle.term.specs.declared.heads.Class.the-variants.{Index, Basis, Term}
 use Rattle.term.specs.Heads.{Label, type-name, basis-name, variable, Head, unknown, named, fixed, counted, heads, unread, labelled, reading, read, word}
 use Rattle.term.specs.Trees.{words, count}
 use Rattle.term.proofs.Readings.{Every, every-at, _⨾_}
-use Rattle.typing.specs.Code.Shapes.{shapeOf}
-use Rattle.typing.specs.Code.Conclude.{concluded, given}
+use Rattle.typebook.specs.Shapes.{shapeOf, given}
+use Rattle.typebook.specs.Lines.{concluded}
 use Rattle.typing.specs.Code.Verdicts.{leafOf}
 use Rattle.declarations.specs.Declarations.{contextIn, basisIn, variableIn}
 use Rattle.types.specs.Sorts.{Sort, basis}
 use Rattle.types.specs.TypeOf.{listed, conclude}
 use Rattle.words.specs.Listed.{upTo}
 use Rattle.words.proofs.Listed.{upTo-at, upTo-past}
-use Rattle.typing.proofs.OnShapes.{on-cond}
+use Rattle.typebook.proofs.OnShapes.{on-cond}
 
 -- a declared name's entry
 on-listed : {A : Type 0} (n : ℕ) (f : ℕ → A) (F : A → Sort) (a : ℕ) → concluded (listed (getElem? (upTo n f) a) F) ≡ given (ltb a n) (some (shapeOf (F (f a))))

@@ -1,30 +1,30 @@
 -- Typing a part from left to right: the children passed so far, the whole part from them, and what it is found to be.
 use mathlib.Core.Path.{_≡_, refl, sym, _∙_, ap}
-use mathlib.Core.Bool.{true, false}
+use mathlib.Core.Bool.{Bool, true, false}
 use mathlib.Core.List.{List, [], _∷_, _++_, append-nil}
-use mathlib.Core.Option.{some}
-use Prim.Native.Nat.{ℕ, suc, _+_, _-_, _≤_, _<_, max}
-use native.Mathlib.Nat.{lt-of-not-le}
+use mathlib.Core.Option.{some, none as nothing}
+use Prim.Native.Nat.{ℕ, _+_, _-_, _≤_, _<_, max}
 use native.Mathlib.Omega.{arith}
-use lib.ListN.{length, take, drop, getD, length-append, length-drop, drop-of-length-le}
-use lib.Seq.{drop-drop, take-take}
-use Rattle.words.proofs.Runs.{to-end}
-use Rattle.term.specs.Heads.{Label, labelled, read, arityOf}
+use lib.ListN.{length, drop, getD, length-append, length-drop}
+use lib.Seq.{drop-drop}
+use Rattle.term.specs.Heads.{Label, heads, labelled, reading, read, arityOf}
 use Rattle.term.specs.declared.heads.Arity.the-variants.{Unknown, Children}
 use Rattle.term.specs.Trees.{Tree, Forest, node, none, _▹_, count, _⧺_, words, words*, depth, depth*}
 use Rattle.term.specs.Parts.{parse, first, part, treeIn}
 use Rattle.term.specs.Terms.{firstDepth, partDepth}
 use Rattle.term.proofs.Parsing.{⧺-assoc, count-⧺, words*-⧺, some-words, Grown, unread-word, words-short, planted, grown, parse-node}
 use Rattle.term.proofs.Extents.{depth*-⧺, parse-behind}
-use Rattle.term.proofs.Scan.{read-children, read-unknown, part-length}
+use Rattle.term.proofs.Scan.{read-children, read-unknown}
 use Rattle.types.specs.Sorts.{Sort, Context}
 use Rattle.types.specs.TypeOf.{Conclusion, fails, gives, conclude, typed, untyped, sorts, decide, close, typeOf, typesOf}
 use Rattle.typing.specs.declared.sorts.Outcome as O
 use Rattle.typing.specs.declared.infer.Verdict as Answer
-use Rattle.typing.specs.Code.Shapes.{shapeOf, Above, Answers}
-use Rattle.typing.specs.Code.Conclude.{concluded}
-use Rattle.typing.specs.Code.Verdicts.{refusal, Unsettled, Settled, Found}
-use Rattle.typing.proofs.Walk.{typed-at, untyped-at, types-more, types-fail, next-child}
+use Rattle.typebook.specs.Shapes.{Shape, given}
+use Rattle.typing.specs.Code.Shapes.{Above, Answers}
+use Rattle.typebook.specs.Lines.{concluded}
+use Rattle.typing.specs.Code.Verdicts.{refusal, Unsettled, Found}
+use Rattle.typing.proofs.Lying.{above-trans, above-lower}
+use Rattle.types.proofs.Walk.{typed-at, untyped-at, types-more, types-fail, next-child}
 
 -- ---- the children passed so far
 pub record Passed (Γ : Context) (ws : List ℕ) (next k deepest : ℕ) (list : List Sort) : Type 0 where
@@ -106,20 +106,24 @@ module _ {Γ : Context} {ws : List ℕ} {next k deepest : ℕ} {list : List Sort
     whole-type = rw (tree-is whole, p .sorted)
 
 -- ---- what is answered
+given-none : (b : Bool) (x : Shape) → given b (some x) ≡ nothing → b ≡ false
+given-none true x e = cc
+given-none false x e = refl
+
+given-some : (b : Bool) (x y : Shape) → given b (some x) ≡ some y → (b ≡ true) × (x ≡ y)
+given-some true x y e = (refl, cc)
+given-some false x y e = (cc, cc)
+
 module _ {Γ : Context} {ws : List ℕ} {budget top next k deepest : ℕ} {list : List Sort} {st st′ : List ℕ} (p : Passed Γ ws next k deepest list) (shallow : deepest < budget)
     (l : Label) (reads : read (getD ws 0 0) ≡ labelled l k) (some : 0 < length ws) where
-  settled-by : (c : Conclusion) → conclude Γ l list ≡ c → {o : O.Outcome} → Answers (concluded c) o top st st′ → {r : Answer.Verdict}
-      → r ≡ record { typed = o .typed; at = 0; size = next; depth = deepest + 1; sorted = o .sorted } → Found Γ ws budget top r st st′
+  settled-by : (c : Conclusion) → conclude Γ l list ≡ c → {o : O.Outcome} → Answers (concluded c) o top st st′
+      → Found Γ ws budget top (record { typed = o .typed; at = 0; size = next; depth = deepest + 1; sorted = o .sorted }) st st′
   unfolding decide
-  settled-by fails e a is =
-      record {
-        kept = a .kept;
-        bound = let z = ap (λ (v : Answer.Verdict). v .at) is in omega arith;
-        settled = λ h. absurd (let x = a .told in let z : _≡_ {A = ℕ} 0 1 = cc in omega arith);
-        unsettled = λ h w s. whole-type p l reads some ∙ rw (e, is);
-      }
-  settled-by (gives S) e {o} a is =
-      let z = ap (λ (v : Answer.Verdict). v .at) is in
+  settled-by fails e {o} a =
+      let n = given-none (o .typed) _ (a .told) in
+      record { kept = a .kept; bound = omega arith; settled = λ h. absurd (let z : _≡_ {A = ℕ} 0 1 = cc in omega arith); unsettled = λ h w s. whole-type p l reads some ∙ rw e }
+  settled-by (gives S) e {o} a =
+      let y = given-some (o .typed) _ _ (a .told) in
       let n = whole-size p l reads some in
       let d = whole-depth p l reads some in
       record {
@@ -129,18 +133,18 @@ module _ {Γ : Context} {ws : List ℕ} {budget top next k deepest : ℕ} {list 
           sort = S;
           whole = let q = p .place in omega arith;
           is = whole-type p l reads some ∙ rw e;
-          size = ap (λ (v : Answer.Verdict). v .size) is ∙ n;
-          depth = ap (λ (v : Answer.Verdict). v .depth) is ∙ d;
+          size = n;
+          depth = d;
           shallow = omega arith;
-          sorted = ap (λ (v : Answer.Verdict). v .sorted) is ∙ ap (λ (x : O.Outcome). x .sorted) (a .told);
-          lies = a .lies (shapeOf S) refl;
+          small = a .small h;
+          sorted = y .1;
         };
-        unsettled = λ h. absurd (let x = a .told in let z : _≡_ {A = ℕ} 0 1 = cc in omega arith);
+        unsettled = λ h. absurd (let x = y .0 in let z : _≡_ {A = ℕ} 0 1 = cc in omega arith);
       }
 
   pub settles : {o : O.Outcome} → Answers (concluded (conclude Γ l list)) o top st st′ → {r : Answer.Verdict}
       → r ≡ record { typed = o .typed; at = 0; size = next; depth = deepest + 1; sorted = o .sorted } → Found Γ ws budget top r st st′
-  settles a is = settled-by (conclude Γ l list) refl a is
+  settles a is = rw is (settled-by (conclude Γ l list) refl a)
 
 -- no part at all
 pub found-none : {Γ : Context} {ws : List ℕ} {budget top : ℕ} {st : List ℕ} {r : Answer.Verdict} → r ≡ refusal 0 → (0 < length (part ws 0) → partDepth ws 0 ≤ budget → ⊥) → Found Γ ws budget top r st st
@@ -173,8 +177,11 @@ unfolding part parse first
 root [] h = absurd (omega arith)
 root (w ∷ vs) h = root-by refl refl h (grown w vs)
 
-pub no-words : (ws : List ℕ) → length ws ≡ 0 → 0 < length (part ws 0) → ⊥
-no-words ws z h = omega (arith, part-length ws 0)
+-- no word is a head's with children, or a leaf's, where there is none
+pub some-word : (ws : List ℕ) {n : ℕ} → arityOf (getD ws 0 0) ≡ Children n → 0 < length ws
+unfolding arityOf read heads reading
+some-word [] e = absurd (let z : _≡_ {A = ℕ} 0 1 = cc in omega arith)
+some-word (w ∷ ws) e = omega arith
 
 pub no-head : (ws : List ℕ) → arityOf (getD ws 0 0) ≡ Unknown → 0 < length (part ws 0) → ⊥
 no-head ws e h = let R = root ws h in let r = read-unknown (getD ws 0 0) e in let q = R .reads in let z : _≡_ {A = ℕ} 0 1 = cc in omega arith
@@ -211,22 +218,12 @@ module _ {Γ : Context} {ws : List ℕ} {budget next k n deepest : ℕ} {list : 
       tree-at : {t : Tree} {f : Forest} → parse ws ≡ t ▹ f → typeOf Γ 0 (treeIn (parse ws)) ≡ typeOf Γ 0 t
       tree-at {t} {f} e = ap (typeOf Γ 0) (tree-is {ws = ws} (record { tree = t; others = f; is = e }))
 
--- ---- on the stack: what stays below an offset stays below a lower one
-pub above-lower : {low top : ℕ} {st st′ : List ℕ} → low ≤ top → Above top st st′ → Above low st st′
-above-lower {low} {top} {st} {st′} h a = record { long = a .long; below = lower st st′ (a .below) }
-  where
-    lower : (xs ys : List ℕ) → take top ys ≡ take top xs → take low ys ≡ take low xs
-    lower xs ys e = sym (take-take low top ys h) ∙ ap (take low) e ∙ take-take low top xs h
-
-pub above-both : {top : ℕ} {st mid st′ : List ℕ} → Above top st mid → Above top mid st′ → Above top st st′
-above-both a b = record { long = b .long ∙ a .long; below = b .below ∙ a .below }
-
 pub found-child : {Γ : Context} {ws : List ℕ} {budget top free next k n deepest : ℕ} {list : List Sort} {st mid st′ : List ℕ} {r : Answer.Verdict} → Passed Γ ws next k deepest list
     → arityOf (getD ws 0 0) ≡ Children n → k < n → next ≤ length ws → (child : Answer.Verdict) → Above top st mid → top ≤ free → Found Γ (drop next ws) (budget - 1) free child mid st′
     → child .typed ≡ false → r ≡ refusal (next + child .at) → Found Γ ws budget top r st st′
 found-child {ws} {next} p wants less inside child a h f no′ is =
     record {
-      kept = above-both a (above-lower h (f .kept));
+      kept = above-trans a (above-lower h (f .kept));
       bound = let z = ap (λ (v : Answer.Verdict). v .at) is in let b = f .bound in let d = length-drop next ws in omega arith;
       settled = λ y. absurd (let z : _≡_ {A = ℕ} 0 1 = cc in omega arith);
       unsettled = λ y w s. child-fails p wants less child (f .unsettled no′) w s ∙ ap untyped (sym (ap (λ (v : Answer.Verdict). v .at) is));

@@ -1,111 +1,132 @@
--- Words put on the stack: a declared index where good declarations hold it, a single word, and what is answered then.
-use mathlib.Core.Path.{_≡_, refl, sym, _∙_, ap}
+-- What is declared of a name: where the words of its sort stand, and the sort that they make on the stack.
+use mathlib.Core.Path.{_≡_, refl, _∙_, ap}
+use mathlib.Core.Bool.{Bool, true, false, cond}
 use mathlib.Core.Logic.{_≢_}
-use mathlib.Core.Bool.{Bool, true, false}
-use mathlib.Core.List.{List, [], _∷_, append-nil}
+use mathlib.Core.List.{List, [], _∷_, _++_}
 use mathlib.Core.Option.{Option, some}
-use Prim.Native.Nat.{ℕ, _+_, _≤_, _<_}
+use Prim.Native.Nat.{ℕ, zero, suc, _+_, _/_, _%_, _≤_, _<_}
 use native.Mathlib.Omega.{arith}
-use lib.ListN.{length, getD, set}
-use Rattle.words.specs.Words.{laid}
-use Rattle.term.specs.declared.heads.Class.the-variants.{Basis, Scalar, Ket, Bra, Operator}
-use Rattle.term.specs.Trees.{words}
+use borrow.Author.Tests.{eq-eqb, ne-eqb, ltb-true}
+use lib.Dec.{eqb, ltb}
+use lib.ListN.{length, getD, set, length-append}
+use Rattle.words.specs.Words.{laid, Added}
+use Rattle.term.specs.declared.heads.Class.the-variants.{Index, Scalar, Ket, Bra, Operator}
 use Rattle.types.specs.Sorts.{basis}
-use Rattle.declarations.specs.Declarations.{size, basisAt, variableAt, indexIn, basisIn, variableIn, goodDeclarations}
-use Rattle.declarations.proofs.Entries.{taken, taken-is, length-taken, basisLen, kind, firstLen, secondLen, GoodIndex, basis-good, basis-room, variable-good, variable-room, kind-0, kind-1, kind-2, kind-3}
-use Rattle.typing.specs.declared.sorts.Sorted as S
-use Rattle.typing.specs.Code.Shapes.{Shape, shapeOf, Lies, Above, Answers, Put}
-use Rattle.typing.specs.Code.Conclude.{isProduct, front}
-use Rattle.typing.proofs.Concluding.{found}
-use Rattle.typing.proofs.Lying.{lies-join, lies-laid, lies-below, set-laid, above-refl, above-trans, above-laid}
+use Rattle.declarations.specs.Declarations.{size, basisAt, variableAt, basisIn, variableIn, goodDeclarations}
+use Rattle.declarations.proofs.Entries.{basisLen, kind, firstLen, secondLen, basis-good, basis-room, variable-good, variable-room, kind-0, kind-1, kind-2, kind-3}
+use Rattle.typing.specs.declared.sorts.Run as R
+use Rattle.typing.specs.declared.lookup.Entry as E
+use Rattle.typebook.specs.Shapes.{Shape, shape, shapeOf, given}
+use Rattle.typing.specs.Code.Shapes.{shapeAt, runAt, Inside, Small, Room, plain, Answers}
+use Rattle.typing.specs.Code.Conclude.{runOf}
+use Rattle.typing.specs.Code.Verdicts.{sortedBy, bareEntry, basisEntry, variableEntry, entryOf, leafOf}
+use Rattle.typing.proofs.Lying.{run-length, above-laid, laid-both, shape-laid, set-laid}
 
--- ---- the entry of a name, by what the code requires, of which T says the rest
-abbrev BasisAt : Type 0 → List ℕ → ℕ → Type 0
-BasisAt T ds a = (goodDeclarations ds ≡ true) × (a < getD ds 1 0) × T
+-- ---- where an entry lies, and that its indices are short
+pub basis-entry : (ds : List ℕ) (a : ℕ) → (goodDeclarations ds ≡ true) × (a < getD ds 1 0) → (length ds ≡ size) × (a < 32) × (basisLen ds a ≤ 63)
+basis-entry ds a h = let r = basis-room ds a h in (r .0, r .1, basis-good ds a h .few)
 
-abbrev VariableAt : Type 0 → List ℕ → ℕ → Type 0
-VariableAt T ds a = (goodDeclarations ds ≡ true) × (a < getD ds 2 0) × T
+pub variable-entry : (ds : List ℕ) (a : ℕ) → (goodDeclarations ds ≡ true) × (a < getD ds 2 0) → (length ds ≡ size) × (a < 32) × (firstLen ds a ≤ 63) × (secondLen ds a ≤ 63)
+variable-entry ds a h = let r = variable-room ds a h in let g = variable-good ds a h in (r .0, r .1, g .first-few, g .second-few)
 
--- where an entry lies, and that its indices are short
-pub basis-entry : {T : Type 0} (ds : List ℕ) (a : ℕ) → BasisAt T ds a → (length ds ≡ size) × (a < 32) × (basisLen ds a ≤ 63)
-basis-entry ds a h = let r = basis-room ds a (h .0, h .1) in (r .0, r .1, basis-good ds a (h .0, h .1) .few)
+-- ---- two runs of the declarations, one behind the other
+abbrev pub Two : List ℕ → R.Run → R.Run → Type 0
+Two ds l r = Inside l ds × Inside r ds × (l .len ≤ 63) × (r .len ≤ 63)
 
-pub variable-entry : {T : Type 0} (ds : List ℕ) (a : ℕ) → VariableAt T ds a → (length ds ≡ size) × (a < 32) × (firstLen ds a ≤ 63) × (secondLen ds a ≤ 63)
-variable-entry ds a h = let r = variable-room ds a (h .0, h .1) in let g = variable-good ds a (h .0, h .1) in (r .0, r .1, g .first-few, g .second-few)
+module _ (ds : List ℕ) (l r : R.Run) (h : Two ds l r) (top : ℕ) (st : List ℕ) (room : Room top st) where
+  bound : top + length (runAt ds l) + length (runAt ds r) ≤ length st
+  bound = omega (arith, run-length ds (l .at) (l .len) (h .0), run-length ds (r .at) (r .len) (h .1))
 
--- ---- one index: its words are there, and so many
-module _ {N : ℕ} {ds : List ℕ} {at n : ℕ} (g : GoodIndex N ds at n) (inside : at + n ≤ length ds) where
-  index-words : taken ds at n ≡ words (indexIn ds at n)
-  index-words = taken-is ds at n ∙ sym (g .same)
+  pub both-put : {mid st′ : List ℕ} {behind : ℕ} → Added st top (runAt ds l) mid behind → mid ≡ laid st top (runAt ds l) → st′ ≡ laid mid behind (runAt ds r) → st′ ≡ laid st top (runAt ds l ++ runAt ds r)
+  both-put {behind = behind} a e f =
+      let b = bound in
+      let z : behind ≡ top + length (runAt ds l) = omega (arith, a .end) in
+      f ∙ rw (e, z) (laid-both st top (runAt ds l) (runAt ds r) b)
 
-  index-size : n ≡ length (words (indexIn ds at n))
-  index-size = sym (length-taken ds at n inside) ∙ ap length index-words
+  fits : top + length (runAt ds l ++ runAt ds r) ≤ length st
+  fits = omega (arith, bound, length-append (runAt ds l) (runAt ds r))
 
-  index-laid : {low to : ℕ} {st st′ : List ℕ} → low ≤ to → to + n ≤ length st → st′ ≡ laid st to (taken ds at n) → Above low st st′ × Lies st′ to (words (indexIn ds at n))
-  index-laid {low} {to} {st} h room e =
-      let z = index-size in
-      rw (e, index-words) (above-laid low st to (words (indexIn ds at n)) h, lies-laid st to (words (indexIn ds at n)) (omega arith))
+  both-there : shapeAt (laid st top (runAt ds l ++ runAt ds r)) top (record { class = Operator; left = l .len; right = r .len }) ≡ shape Operator (runAt ds l) (runAt ds r)
+  both-there = rw (run-length ds (l .at) (l .len) (h .0), run-length ds (r .at) (r .len) (h .1)) at (shape-laid Operator st top (runAt ds l) (runAt ds r) fits)
 
-pub basis-put : (ds : List ℕ) (a top : ℕ) (st st′ : List ℕ) → BasisAt (top + 126 ≤ length st) ds a → st′ ≡ laid st top (taken ds (basisAt a + 1) (basisLen ds a))
-    → Put (shapeOf (basis (basisIn ds a))) (record { class = Basis; left = basisLen ds a; right = 0 }) top st st′
-unfolding basisIn
-basis-put ds a top st st′ h e =
+-- ---- what an entry says
+pub record Holds (ds : List ℕ) (o : Option Shape) (e : E.Entry) : Type 0 where
+  pub two : Two ds (e .left) (e .right)
+  pub small : Small (e .sorted)
+  pub is : (top : ℕ) (st : List ℕ) → Room top st → given (e .typed) (some (shapeAt (laid st top (runAt ds (e .left) ++ runAt ds (e .right))) top (e .sorted))) ≡ o
+
+bare-holds : (ds : List ℕ) (b : Bool) → Holds ds (given b (some (shape Scalar [] []))) (bareEntry b)
+bare-holds ds b = record { two = (omega arith, omega arith, omega arith, omega arith); small = (omega arith, omega arith); is = λ top st h. refl }
+
+basis-holds : (ds : List ℕ) (a : ℕ) → (goodDeclarations ds ≡ true) × (a < getD ds 1 0) → Holds ds (some (shapeOf (basis (basisIn ds a)))) (basisEntry ds a)
+unfolding basisEntry basisIn
+basis-holds ds a h =
     let b = basis-entry ds a h in
-    let g = basis-good ds a (h .0, h .1) in
-    let l = index-laid g (omega arith) {low = top} (omega arith) (omega arith) e in
-    record { told = rw (← index-size g (omega arith)); kept = l .0; lies = rw append-nil (l .1) }
+    let t : Two ds (runOf (basisAt a + 1) (basisLen ds a)) (runOf 0 0) = (omega arith, omega arith, b .2, omega arith) in
+    record { two = t; small = (b .2, omega arith); is = λ top st r. rw (ap (λ (s : Shape). s .left) (both-there ds (runOf (basisAt a + 1) (basisLen ds a)) (runOf 0 0) t top st r), basis-good ds a h .same) }
 
--- ---- a variable, by its kind
-module _ (ds : List ℕ) (a top : ℕ) (st : List ℕ) (h : VariableAt (top + 126 ≤ length st) ds a) where
-  pub scalar-put : kind ds a ≡ 0 → Put (shapeOf (variableIn ds a)) (record { class = Scalar; left = 0; right = 0 }) top st st
-  scalar-put k = rw (kind-0 ds a k) (record { told = refl; kept = above-refl top st; lies = refl })
+-- a variable, by its kind
+module _ (ds : List ℕ) (a : ℕ) (h : (goodDeclarations ds ≡ true) × (a < getD ds 2 0)) where
+  abbrev rowsAt : R.Run
+  rowsAt = runOf (variableAt a + 3) (firstLen ds a)
 
-  module _ (some : kind ds a ≢ 0) (st′ : List ℕ) (e : st′ ≡ laid st top (taken ds (variableAt a + 3) (firstLen ds a))) where
-    rows-good : GoodIndex (getD ds 0 0) ds (variableAt a + 3) (firstLen ds a)
-    rows-good = variable-good ds a (h .0, h .1) .rows-good some
+  abbrev columnsAt : R.Run
+  columnsAt = runOf (variableAt a + 66) (secondLen ds a)
 
-    rows-inside : variableAt a + 3 + firstLen ds a ≤ length ds
-    rows-inside = omega (arith, variable-entry ds a h)
+  both : Two ds rowsAt columnsAt
+  both = let b = variable-entry ds a h in (omega arith, omega arith, b .2, b .3)
 
-    rows-laid : Above top st st′ × Lies st′ top (words (indexIn ds (variableAt a + 3) (firstLen ds a)))
-    rows-laid = index-laid rows-good rows-inside (omega arith) (omega (arith, variable-entry ds a h)) e
+  small-by : (k : ℕ) → Small (sortedBy k (firstLen ds a) (secondLen ds a))
+  small-by k = go (eqb k 0) (eqb k 1) (eqb k 2) (both .2) (both .3)
+    where
+      go : {n m : ℕ} (x y z : Bool) → n ≤ 63 → m ≤ 63
+          → Small (cond x plain (cond y (record { class = Ket; left = n; right = 0 }) (cond z (record { class = Bra; left = 0; right = n }) (record { class = Operator; left = n; right = m }))))
+      go true y z i j = (omega arith, omega arith)
+      go false true z i j = (i, omega arith)
+      go false false true i j = (omega arith, i)
+      go false false false i j = (i, j)
 
-    pub ket-put : kind ds a ≡ 1 → Put (shapeOf (variableIn ds a)) (record { class = Ket; left = firstLen ds a; right = 0 }) top st st′
-    ket-put k =
-        let l = rows-laid in
-        rw (kind-1 ds a k) (record { told = rw (← index-size rows-good rows-inside); kept = l .0; lies = rw append-nil (l .1) })
+  shape-by : (k : ℕ) → kind ds a ≡ k → (top : ℕ) (st : List ℕ) → Room top st
+      → shapeAt (laid st top (runAt ds rowsAt ++ runAt ds columnsAt)) top (sortedBy k (firstLen ds a) (secondLen ds a)) ≡ shapeOf (variableIn ds a)
+  shape-by zero e top st r = rw (kind-0 ds a e)
+  shape-by (suc zero) e top st r = rw (kind-1 ds a e, ap (λ (s : Shape). s .left) (both-there ds rowsAt columnsAt both top st r), variable-good ds a h .rows-good (λ z. omega arith) .same)
+  shape-by (suc (suc zero)) e top st r =
+      let z : top + 0 ≡ top = omega arith in
+      rw (kind-2 ds a e, z, ap (λ (s : Shape). s .left) (both-there ds rowsAt columnsAt both top st r), variable-good ds a h .rows-good (λ z. omega arith) .same)
+  shape-by (suc (suc (suc zero))) e top st r = rw (kind-3 ds a e) (both-there ds rowsAt columnsAt both top st r ∙ rw (variable-good ds a h .rows-good (λ z. omega arith) .same, variable-good ds a h .columns-good e .same))
+  shape-by (suc (suc (suc (suc k)))) e top st r = absurd (omega (arith, variable-good ds a h .known))
 
-    pub bra-put : kind ds a ≡ 2 → Put (shapeOf (variableIn ds a)) (record { class = Bra; left = 0; right = firstLen ds a }) top st st′
-    bra-put k =
-        let l = rows-laid in
-        rw (kind-2 ds a k) (record { told = rw (← index-size rows-good rows-inside); kept = l .0; lies = l .1 })
+  variable-holds : Holds ds (some (shapeOf (variableIn ds a))) (variableEntry ds a)
+  unfolding variableEntry
+  variable-holds = record { two = both; small = small-by (kind ds a); is = λ top st r. ap some (shape-by (kind ds a) refl top st r) }
 
-    pub operator-put : kind ds a ≢ 1 → kind ds a ≢ 2 → (st″ : List ℕ) → st″ ≡ laid st′ (top + firstLen ds a) (taken ds (variableAt a + 66) (secondLen ds a))
-        → Put (shapeOf (variableIn ds a)) (record { class = Operator; left = firstLen ds a; right = secondLen ds a }) top st st″
-    operator-put p q st″ f =
-        let b = variable-entry ds a h in
-        let v = variable-good ds a (h .0, h .1) in
-        let k : kind ds a ≡ 3 = omega (arith, v .known) in
-        let g = v .columns-good k in
-        let n = index-size rows-good rows-inside in
-        let m = index-size g (omega arith) in
-        let l = rows-laid in
-        let r = index-laid g (omega arith) {low = top} (omega arith) (omega (arith, l .0 .long)) f in
-        let under : Lies st″ top (words (indexIn ds (variableAt a + 3) (firstLen ds a))) = rw f (lies-below st′ (top + firstLen ds a) _ top _ (omega arith) (l .1)) in
-        rw (kind-3 ds a k) (record { told = rw (← n, ← m); kept = above-trans (l .0) (r .0); lies = lies-join st″ top _ _ under (rw (← n) (r .1)) })
-
--- ---- one word
-pub word-put : (st : List ℕ) (top w : ℕ) → top < length st → Above top st (set st top w) × Lies (set st top w) top (w ∷ [])
-word-put st top w h = rw (set-laid st top w h) (above-laid top st top (w ∷ []) (omega arith), lies-laid st top (w ∷ []) (omega arith))
-
--- a product's word, where the head makes a product
-module _ (h top : ℕ) (st : List ℕ) (b : Bool) (told : b ≡ isProduct h) where
-  pub opened : b ≡ true → top + 126 ≤ length st → (top + 1 ≡ top + length (front h)) × Above top st (set st top 512) × Lies (set st top 512) top (front h)
-  opened e room = let q : isProduct h ≡ true = sym told ∙ e in let p = word-put st top 512 (omega arith) in rw q (refl, p .0, p .1)
-
-  pub unopened : b ≡ false → (top ≡ top + length (front h)) × Above top st st × Lies st top (front h)
-  unopened e = let q : isProduct h ≡ false = sym told ∙ e in rw q (omega arith, above-refl top st, refl)
+-- by the word
+pub entry-holds : (ds : List ℕ) (w : ℕ) → goodDeclarations ds ≡ true → w / 256 ≢ 1 → Holds ds (leafOf ds w) (entryOf ds w)
+unfolding entryOf leafOf
+entry-holds ds w g n = rw (ne-eqb (w / 256) 1 n) (go (eqb (w / 256) 3) (ltb (w % 256) (getD ds 1 0)) (eqb (w / 256) 26) (ltb (w % 256) (getD ds 2 0)) refl refl)
+  where
+    go : (b c d e : Bool) → ltb (w % 256) (getD ds 1 0) ≡ c → ltb (w % 256) (getD ds 2 0) ≡ e
+        → Holds ds (cond b (given c (some (shapeOf (basis (basisIn ds (w % 256)))))) (cond d (given e (some (shapeOf (variableIn ds (w % 256))))) (some (shape Scalar [] []))))
+        (cond b (cond c (basisEntry ds (w % 256)) (bareEntry false)) (cond d (cond e (variableEntry ds (w % 256)) (bareEntry false)) (bareEntry true)))
+    go true true d e p q = basis-holds ds (w % 256) (g, ltb-true _ _ p)
+    go true false d e p q = bare-holds ds false
+    go false c true true p q = variable-holds ds (w % 256) (g, ltb-true _ _ q)
+    go false c true false p q = bare-holds ds false
+    go false c false e p q = bare-holds ds true
 
 -- ---- answers
-pub put-found : {o : Option Shape} {s : Shape} {r : S.Sorted} {top : ℕ} {st st′ : List ℕ} → Put s r top st st′ → o ≡ some s → Answers o (record { typed = true; sorted = r }) top st st′
-put-found {o} {s} {r} {top} {st} {st′} p e = found o _ top st st′ s e (rw (p .told)) (p .kept, p .lies)
+pub leaf-put : (ds : List ℕ) {o : Option Shape} {k : E.Entry} (e : E.Entry) {top : ℕ} {st st′ : List ℕ} → e ≡ k → Holds ds o k → Room top st → st′ ≡ laid st top (runAt ds (e .left) ++ runAt ds (e .right))
+    → Answers o (record { typed = e .typed; sorted = e .sorted }) top st st′
+leaf-put ds {k = k} e {top} {st} is h r l = rw (l, is) (record { told = h .is top st r; small = λ y. h .small; kept = above-laid st top (runAt ds (k .left) ++ runAt ds (k .right)) (fits ds (k .left) (k .right) (h .two) top st r) })
+
+-- one word
+pub word-put : (ds : List ℕ) (w : ℕ) (st : List ℕ) (top : ℕ) → w / 256 ≡ 1 → Room top st
+    → Answers (leafOf ds w) (record { typed = ltb (w % 256) (getD ds 0 0); sorted = record { class = Index; left = 1; right = 0 } }) top st (set st top w)
+unfolding leafOf
+word-put ds w st top e h =
+    let b : top + 1 ≤ length st = omega arith in
+    rw (eq-eqb (w / 256) 1 e, set-laid st top w (omega arith)) (record {
+      told = ap (λ (s : Shape). given (ltb (w % 256) (getD ds 0 0)) (some s)) (shape-laid Index st top (w ∷ []) [] b);
+      small = λ y. (omega arith, omega arith);
+      kept = above-laid st top (w ∷ []) b;
+    })

@@ -1,24 +1,22 @@
 // The sort of a part, or the place of the first untyped one.
-use crate::gathering::conclude_children;
 use crate::gathering::gather;
-use crate::gathering::is_product;
 use crate::gathering::none_yet;
-use crate::lookup::put_basis;
-use crate::lookup::put_variable;
+use crate::lookup::entry_of;
+use crate::lookup::put_words;
+use crate::rules::conclude;
 use crate::sorts::Outcome;
 use crate::sorts::Sorted;
-use crate::sorts::typed;
-use crate::sorts::untyped;
 use term::heads::Arity;
 use term::heads::Class;
 use term::heads::arity_of;
+use term::terms::larger;
+use words::word_at;
 ghost use mathlib.Core.Path.{_≡_};
 ghost use mathlib.Core.Bool.{true};
-ghost use Prim.Native.Nat.{_+_, _≤_, _<_, max};
+ghost use Prim.Native.Nat.{_+_, _≤_};
 ghost use lib.ListN.{length};
 ghost use Rattle.declarations.specs.Declarations.{contextIn, goodDeclarations};
-ghost use Rattle.typing.specs.Code.Shapes.{Above, Lies, Answers};
-ghost use Rattle.typing.specs.Code.Conclude.{front};
+ghost use Rattle.typing.specs.Code.Shapes.{Room, Answers};
 ghost use Rattle.typing.specs.Code.Verdicts.{refusal, leafOf, room, Found};
 
 // What typing finds of a part: its number of words, its depth and its sort, or the offset of the first untyped part.
@@ -61,70 +59,41 @@ fn settled(size: usize, depth: usize, outcome: Outcome) -> Verdict
 
 // What is found of a head without children. The declarations were tested.
 fn conclude_leaf(ds: &[u16], word: u16, stack: &mut [u16], top: usize) -> Outcome
-    requires { ⌜ (goodDeclarations (now ds) ≡ true) × (2 < length (now ds)) × (top + 126 ≤ length (now stack)) ⌝ }
+    requires { ⌜ (goodDeclarations (now ds) ≡ true) × Room top (now stack) ⌝ }
     ensures { λ r. ⌜ Answers (leafOf (now (ds .entry)) word) r top (now (stack .entry)) (now (stack .exit)) ⌝ }
 {
-    let head = word / 256;
-    let name = (word % 256) as usize;
-    if head == 1 {
-        if name < ds[0] as usize {
-            stack[top] = word;
-            return typed(Class::Index, 1, 0);
-        }
-        return untyped();
+    if word / 256 == 1 {
+        stack[top] = word;
+        return Outcome {
+            typed: word % 256 < word_at(ds, 0),
+            sorted: Sorted {
+                class: Class::Index,
+                left: 1,
+                right: 0,
+            },
+        };
     }
-    if head == 3 {
-        if name < ds[1] as usize {
-            return Outcome {
-                typed: true,
-                sorted: put_basis(ds, name, stack, top),
-            };
-        }
-        return untyped();
+    let e = entry_of(ds, word);
+    let left = e.left;
+    let right = e.right;
+    let sorted = e.sorted;
+    put_words(ds, left, right, stack, top);
+    Outcome {
+        typed: e.typed,
+        sorted,
     }
-    if head == 26 {
-        if name < ds[2] as usize {
-            return Outcome {
-                typed: true,
-                sorted: put_variable(ds, name, stack, top),
-            };
-        }
-        return untyped();
-    }
-    typed(Class::Scalar, 0, 0)
-}
-
-// Where the children's words begin: behind a product's word, where the head makes one.
-fn open(head: usize, stack: &mut [u16], top: usize) -> usize
-    requires { ⌜ top + 126 ≤ length (now stack) ⌝ }
-    ensures { λ r. ⌜ (r ≡ top + length (front head)) × Above top (now (stack .entry)) (now (stack .exit)) × Lies (now (stack .exit)) top (front head) ⌝ }
-{
-    if is_product(head) {
-        stack[top] = 512;
-        return top + 1;
-    }
-    top
-}
-
-fn larger(a: usize, b: usize) -> usize
-    ensures { λ r. ⌜ r ≡ max a b ⌝ }
-{
-    if a < b { b } else { a }
 }
 
 // The sort of the whole part with which `ws` begins, with its words on the stack from `top` on; or the offset of its first untyped part. It calls itself no deeper than the
 // budget.
 pub fn type_part(ds: &[u16], ws: &[u16], stack: &mut [u16], top: usize, budget: usize) -> Verdict
-    requires { ⌜ (goodDeclarations (now ds) ≡ true) × (top + room budget ≤ length (now stack)) × (budget ≤ 64) ⌝ }
+    requires { ⌜ (goodDeclarations (now ds) ≡ true) × (top + room budget ≤ length (now stack)) × (length (now stack) ≤ 8190) × (budget ≤ 64) ⌝ }
     ensures { λ r. ⌜ Found (contextIn (now (ds .entry))) (now (ws .entry)) budget top r (now (stack .entry)) (now (stack .exit)) ⌝ }
 {
     if budget == 0 {
         return refused(0);
     }
-    if ws.len() == 0 {
-        return refused(0);
-    }
-    let word = ws[0];
+    let word = word_at(ws, 0);
     let Arity::Children(n) = arity_of(word) else {
         return refused(0);
     };
@@ -132,8 +101,7 @@ pub fn type_part(ds: &[u16], ws: &[u16], stack: &mut [u16], top: usize, budget: 
         return settled(1, 1, conclude_leaf(ds, word, stack, top));
     }
     let head = (word / 256) as usize;
-    let base = open(head, stack, top);
-    let mut g = none_yet(head, base);
+    let mut g = none_yet(head, top);
     let mut deepest = 0;
     let mut next = 1;
     let mut k = 0;
@@ -143,10 +111,10 @@ pub fn type_part(ds: &[u16], ws: &[u16], stack: &mut [u16], top: usize, budget: 
             return refused(next + child.at);
         }
         let s = child.sorted;
-        g = gather(k, stack, base, g, s);
+        g = gather(k, stack, top, g, s);
         deepest = larger(deepest, child.depth);
         next += child.size;
         k += 1;
     }
-    settled(next, deepest + 1, conclude_children(head, n, stack, top, g))
+    settled(next, deepest + 1, conclude(head, n, stack, top, g))
 }

@@ -1,7 +1,6 @@
-mod conclude;
 mod gathering;
 mod infer;
 mod lookup;
-mod runs;
+mod rules;
 mod sorts;
 pub mod terms;

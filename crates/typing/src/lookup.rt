@@ -1,69 +1,132 @@
 // What is declared of a name, found by its number. Every function here leans on a test that was made: typing's entry makes it first, by `are_good`, and no other crate sees these.
+use crate::sorts::Run;
 use crate::sorts::Sorted;
+use crate::sorts::put_run;
+use crate::sorts::run_at;
 use term::heads::Class;
-use words::append;
+use words::word_at;
 ghost use mathlib.Core.Path.{_≡_};
 ghost use mathlib.Core.Bool.{true};
-ghost use Prim.Native.Nat.{_+_, _≤_, _<_};
-ghost use lib.ListN.{length, getD};
-ghost use Rattle.declarations.specs.Declarations.{goodDeclarations, basisIn, variableIn};
-ghost use Rattle.types.specs.Sorts.{basis};
-ghost use Rattle.typing.specs.Code.Shapes.{shapeOf, Put};
+ghost use mathlib.Core.List.{_++_};
+ghost use Prim.Native.Nat.{_≤_, _<_};
+ghost use lib.ListN.{getD};
+ghost use Rattle.words.specs.Words.{laid};
+ghost use Rattle.declarations.specs.Declarations.{goodDeclarations};
+ghost use Rattle.typing.specs.Code.Shapes.{runAt, Inside, Room};
+ghost use Rattle.typing.specs.Code.Verdicts.{sortedBy, bareEntry, basisEntry, variableEntry, entryOf};
 
-pub fn put_basis(ds: &[u16], a: usize, stack: &mut [u16], top: usize) -> Sorted
-    requires { ⌜ (goodDeclarations (now ds) ≡ true) × (a < getD (now ds) 1 0) × (top + 126 ≤ length (now stack)) ⌝ }
-    ensures { λ r. ⌜ Put (shapeOf (basis (basisIn (now (ds .entry)) a))) r top (now (stack .entry)) (now (stack .exit)) ⌝ }
-{
-    let at = 3 + a * 64;
-    let n = ds[at] as usize;
-    let from = at + 1;
-    let end = from + n;
-    append(stack, top, &ds[from..end]);
-    Sorted {
-        class: Class::Basis,
-        left: n,
-        right: 0,
-    }
+// A sort, or none, and where the declarations have the words of its two indices.
+pub struct Entry {
+    pub typed: bool,
+    pub sorted: Sorted,
+    pub left: Run,
+    pub right: Run,
 }
 
-pub fn put_variable(ds: &[u16], a: usize, stack: &mut [u16], top: usize) -> Sorted
-    requires { ⌜ (goodDeclarations (now ds) ≡ true) × (a < getD (now ds) 2 0) × (top + 126 ≤ length (now stack)) ⌝ }
-    ensures { λ r. ⌜ Put (shapeOf (variableIn (now (ds .entry)) a)) r top (now (stack .entry)) (now (stack .exit)) ⌝ }
+// A sort without indices, or none.
+fn bare(typed: bool) -> Entry
+    ensures { λ r. ⌜ r ≡ bareEntry typed ⌝ }
 {
-    let at = 2051 + a * 129;
-    let kind = ds[at];
-    if kind == 0 {
-        return Sorted {
+    Entry {
+        typed,
+        sorted: Sorted {
             class: Class::Scalar,
             left: 0,
             right: 0,
-        };
+        },
+        left: run_at(0, 0),
+        right: run_at(0, 0),
     }
-    let n = ds[at + 1] as usize;
-    let from = at + 3;
-    let end = from + n;
-    append(stack, top, &ds[from..end]);
-    if kind == 1 {
-        return Sorted {
+}
+
+fn basis_entry(ds: &[u16], a: usize) -> Entry
+    requires { ⌜ (goodDeclarations (now ds) ≡ true) × (a < getD (now ds) 1 0) ⌝ }
+    ensures { λ r. ⌜ r ≡ basisEntry (now (ds .entry)) a ⌝ }
+{
+    let at = 3 + a * 64;
+    let n = word_at(ds, at) as usize;
+    Entry {
+        typed: true,
+        sorted: Sorted {
+            class: Class::Basis,
+            left: n,
+            right: 0,
+        },
+        left: run_at(at + 1, n),
+        right: run_at(0, 0),
+    }
+}
+
+// A variable's sort in numbers, by its kind.
+fn sorted_by(kind: u16, n: usize, m: usize) -> Sorted
+    ensures { λ r. ⌜ r ≡ sortedBy kind n m ⌝ }
+{
+    match kind {
+        0 => Sorted {
+            class: Class::Scalar,
+            left: 0,
+            right: 0,
+        },
+        1 => Sorted {
             class: Class::Ket,
             left: n,
             right: 0,
-        };
-    }
-    if kind == 2 {
-        return Sorted {
+        },
+        2 => Sorted {
             class: Class::Bra,
             left: 0,
             right: n,
-        };
+        },
+        _ => Sorted {
+            class: Class::Operator,
+            left: n,
+            right: m,
+        },
     }
-    let m = ds[at + 2] as usize;
-    let other = at + 66;
-    let behind = other + m;
-    append(stack, top + n, &ds[other..behind]);
-    Sorted {
-        class: Class::Operator,
-        left: n,
-        right: m,
+}
+
+fn variable_entry(ds: &[u16], a: usize) -> Entry
+    requires { ⌜ (goodDeclarations (now ds) ≡ true) × (a < getD (now ds) 2 0) ⌝ }
+    ensures { λ r. ⌜ r ≡ variableEntry (now (ds .entry)) a ⌝ }
+{
+    let at = 2051 + a * 129;
+    let n = word_at(ds, at + 1) as usize;
+    let m = word_at(ds, at + 2) as usize;
+    Entry {
+        typed: true,
+        sorted: sorted_by(word_at(ds, at), n, m),
+        left: run_at(at + 3, n),
+        right: run_at(at + 66, m),
     }
+}
+
+// What is declared of the name in a word; a scalar where it has none.
+pub fn entry_of(ds: &[u16], word: u16) -> Entry
+    requires { ⌜ goodDeclarations (now ds) ≡ true ⌝ }
+    ensures { λ r. ⌜ r ≡ entryOf (now (ds .entry)) word ⌝ }
+{
+    let head = word / 256;
+    let name = (word % 256) as usize;
+    if head == 3 {
+        if name < word_at(ds, 1) as usize {
+            return basis_entry(ds, name);
+        }
+        return bare(false);
+    }
+    if head == 26 {
+        if name < word_at(ds, 2) as usize {
+            return variable_entry(ds, name);
+        }
+        return bare(false);
+    }
+    bare(true)
+}
+
+// Puts two runs of the declarations on the stack, one behind the other.
+pub fn put_words(ds: &[u16], left: Run, right: Run, stack: &mut [u16], top: usize)
+    requires { ⌜ Inside left (now ds) × Inside right (now ds) × (left .len ≤ 63) × (right .len ≤ 63) × Room top (now stack) ⌝ }
+    ensures { λ _. ⌜ now (stack .exit) ≡ laid (now (stack .entry)) top (runAt (now (ds .entry)) left ++ runAt (now (ds .entry)) right) ⌝ }
+{
+    let behind = put_run(stack, top, ds, left);
+    put_run(stack, behind, ds, right);
 }

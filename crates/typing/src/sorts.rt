@@ -1,8 +1,13 @@
 // A sort in numbers. The words of its two indices stand on a stack, the left ones first.
 use term::heads::Class;
+use typebook::number;
+use words::append;
+use words::same;
 ghost use mathlib.Core.Path.{_≡_};
-ghost use mathlib.Core.Bool.{true};
-ghost use Rattle.typing.specs.Code.Shapes.{numberOf, fitting, failure};
+ghost use Rattle.words.specs.Words.{sameWords, laid, Added};
+ghost use Rattle.typebook.specs.Lines.{alikeTo};
+ghost use Rattle.typing.specs.Code.Shapes.{shapeAt, runAt, Inside, Small, Room};
+ghost use Rattle.typing.specs.Code.Conclude.{runOf};
 
 // An index or a basis has its index on the left; a ket has its index on the left, a bra on the right, and an operator its rows on the left and its columns on the right, as
 // the matrix that each stands for.
@@ -12,58 +17,82 @@ pub struct Sorted {
     pub right: usize,
 }
 
+// Words of the stack or of the declarations: where they begin, and how many they are.
+pub struct Run {
+    pub at: usize,
+    pub len: usize,
+}
+
 // What a rule concludes: a sort, or none.
 pub struct Outcome {
     pub typed: bool,
     pub sorted: Sorted,
 }
 
-pub fn untyped() -> Outcome
-    ensures { λ r. ⌜ r ≡ failure ⌝ }
-{
-    Outcome {
-        typed: false,
-        sorted: Sorted {
-            class: Class::Scalar,
-            left: 0,
-            right: 0,
-        },
-    }
+// What a rule makes of a part's children: whether there is a sort, and which; whether indices are multiplied; and where the words of its two indices stand, or of their first
+// factors.
+pub struct Plan {
+    pub typed: bool,
+    pub sorted: Sorted,
+    pub product: bool,
+    pub left: Run,
+    pub right: Run,
 }
 
-pub fn typed(class: Class, left: usize, right: usize) -> Outcome
-    ensures { λ r. ⌜ r ≡ record { typed = true; sorted = record { class = class; left = left; right = right } } ⌝ }
-{
-    Outcome {
-        typed: true,
-        sorted: Sorted { class, left, right },
-    }
+// What is kept of a part's children as they come: the first and the latest, with the place of the latest's words, whether all are like the first, where that is asked, and where
+// the next one's words go: the first's stay, and the others' come behind them.
+pub struct Gathered {
+    pub first: Sorted,
+    pub latest: Sorted,
+    pub at: usize,
+    pub free: usize,
+    pub alike: bool,
 }
 
-pub fn number(class: Class) -> u8
-    ensures { λ r. ⌜ r ≡ numberOf class ⌝ }
+pub fn run_at(at: usize, len: usize) -> Run
+    ensures { λ r. ⌜ r ≡ runOf at len ⌝ }
 {
-    match class {
-        Class::Nothing => 0,
-        Class::Index => 1,
-        Class::Basis => 2,
-        Class::Scalar => 3,
-        Class::Ket => 4,
-        Class::Bra => 5,
-        Class::Operator => 6,
-        Class::Array => 7,
-        Class::Term => 8,
-    }
+    Run { at, len }
 }
 
-// Whether a child's class is the one that the table of heads wants: the same, or any array where an array is wanted.
-pub fn fits(class: Class, wanted: Class) -> bool
-    ensures { λ r. ⌜ r ≡ fitting class wanted ⌝ }
+// Lays a run over `out` from `to` on, and answers its end.
+pub fn put_run(out: &mut [u16], to: usize, ws: &[u16], r: Run) -> usize
+    requires { ⌜ Inside r (now ws) ⌝ }
+    ensures { λ e. ⌜ Added (now (out .entry)) to (runAt (now (ws .entry)) r) (now (out .exit)) e × (now (out .exit) ≡ laid (now (out .entry)) to (runAt (now (ws .entry)) r)) ⌝ }
 {
-    let n = number(class);
-    let w = number(wanted);
-    if w == 7 {
-        return 4 <= n && n <= 6;
+    let from = r.at;
+    let end = from + r.len;
+    append(out, to, &ws[from..end])
+}
+
+// Whether two runs of the stack are the same.
+pub fn same_runs(stack: &[u16], p: Run, q: Run) -> bool
+    requires { ⌜ Inside p (now stack) × Inside q (now stack) ⌝ }
+    ensures { λ r. ⌜ r ≡ sameWords (runAt (now (stack .entry)) p) (runAt (now (stack .entry)) q) ⌝ }
+{
+    let from = p.at;
+    let end = from + p.len;
+    let other = q.at;
+    let last = other + q.len;
+    same(&stack[from..end], &stack[other..last])
+}
+
+// Whether two sorts are the same.
+pub fn are_alike(stack: &[u16], top: usize, a: Sorted, at: usize, b: Sorted) -> bool
+    requires { ⌜ Room top (now stack) × Room at (now stack) × Small a × Small b ⌝ }
+    ensures { λ r. ⌜ r ≡ alikeTo (shapeAt (now (stack .entry)) top a) (shapeAt (now (stack .entry)) at b) ⌝ }
+{
+    let class = a.class;
+    let other = b.class;
+    if number(class) != number(other) {
+        return false;
     }
-    n == w
+    if !same_runs(stack, run_at(top, a.left), run_at(at, b.left)) {
+        return false;
+    }
+    same_runs(
+        stack,
+        run_at(top + a.left, a.right),
+        run_at(at + b.left, b.right),
+    )
 }

@@ -1,12 +1,11 @@
 // The typing of one term.
 use crate::infer::type_part;
 use crate::sorts::Sorted;
-use crate::sorts::number;
 use declarations::are_good;
 use declarations::names_of;
-use term::heads::Class;
 use term::terms::all_declared;
 use term::terms::is_term;
+use typebook::number;
 use words::copy_words;
 ghost use mathlib.Core.Path.{_≡_};
 ghost use mathlib.Core.Bool.{true};
@@ -17,7 +16,8 @@ ghost use Rattle.types.specs.Sorts.{Sort};
 ghost use Rattle.types.specs.TypeOf.{typed};
 ghost use Rattle.declarations.specs.Declarations.{goodDeclarations};
 ghost use Rattle.typing.specs.Answers.{sizesOf, refuse, typing, answerOf, typingOf};
-ghost use Rattle.typing.specs.Code.Shapes.{shapeOf, run, sizes, Lies, Small};
+ghost use Rattle.typebook.specs.Shapes.{shapeOf};
+ghost use Rattle.typing.specs.Code.Shapes.{shapeAt, Small};
 ghost use Rattle.typing.specs.Code.Verdicts.{room, typingIn};
 
 // The kind of a type, with the lengths of its indices.
@@ -126,7 +126,7 @@ fn accepted(size: usize, depth: usize, kind: Kind, stack: &[u16], n: usize, m: u
 // A sort is a type unless it is an index or a basis. Its words stand at the bottom of the stack.
 fn answered(size: usize, depth: usize, stack: &[u16], s: Sorted) -> Typing
     requires { ⌜ Small s × (126 ≤ length (now stack)) ⌝ }
-    ensures { λ r. ⌜ ((S : Sort) → s ≡ sizes (shapeOf S) → Lies (now (stack .entry)) 0 (run (shapeOf S)) → r ≡ answerOf size depth (typed S)) ⌝ }
+    ensures { λ r. ⌜ ((S : Sort) → shapeAt (now (stack .entry)) 0 s ≡ shapeOf S → r ≡ answerOf size depth (typed S)) ⌝ }
 {
     let class = s.class;
     let rows = s.left;
@@ -156,7 +156,7 @@ fn answered(size: usize, depth: usize, stack: &[u16], s: Sorted) -> Typing
 
 // What all of some words are found to be, in one walk where they are typed. The declarations were tested.
 fn typed_on(ds: &[u16], ws: &[u16], stack: &mut [u16], budget: usize) -> Typing
-    requires { ⌜ (goodDeclarations (now ds) ≡ true) × (length (now ws) ≤ 4096) × (room budget ≤ length (now stack)) × (budget ≤ 64) × (partDepth (now ws) 0 ≤ 64 → partDepth (now ws) 0 ≤ budget) ⌝ }
+    requires { ⌜ (goodDeclarations (now ds) ≡ true) × (length (now ws) ≤ 4096) × (room budget ≤ length (now stack)) × (length (now stack) ≤ 8190) × (budget ≤ 64) × (partDepth (now ws) 0 ≤ 64 → partDepth (now ws) 0 ≤ budget) ⌝ }
     ensures { λ r. ⌜ r ≡ typingIn (now (ds .entry)) (now (ws .entry)) ⌝ }
 {
     let n = ws.len();
@@ -191,10 +191,14 @@ pub fn type_term(ds: &[u16], ws: &[u16], n: usize) -> Typing
         return refused_with(8, 0);
     }
     // a term of few words is not deep, and to clear a large stack would take longer than to type it
+    if n <= 7 {
+        let mut stack = [0u16; 1008];
+        return typed_on(ds, &ws[..n], &mut stack, 7);
+    }
     if n <= 16 {
-        let mut stack = [0u16; 2289];
+        let mut stack = [0u16; 2142];
         return typed_on(ds, &ws[..n], &mut stack, 16);
     }
-    let mut stack = [0u16; 8385];
+    let mut stack = [0u16; 8190];
     typed_on(ds, &ws[..n], &mut stack, 64)
 }

@@ -1,6 +1,6 @@
 -- Lists and tests by number: an item is found by its number, and a test passes where it passes for each.
 use mathlib.Core.Path.{_≡_, refl, ap}
-use mathlib.Core.Bool.{Bool, true, false, _&&_, and-eq-true-iff, and-false}
+use mathlib.Core.Bool.{Bool, true, false, and-eq-true-iff, and-false}
 use mathlib.Core.List.{List, [], _∷_, _++_}
 use mathlib.Core.Option as O
 use Prim.Native.Nat.{ℕ, zero, suc, _+_, _≤_, _<_}

@@ -8,7 +8,7 @@ use native.Mathlib.Nat.{zero-add}
 use native.Mathlib.Numerals.{add-one}
 use native.Mathlib.Decide.{decLe}
 use native.Mathlib.Omega.{arith}
-use lib.Dec.{eqb, eqb·suc-suc, eqb·zero-suc}
+use lib.Dec.{eqb}
 use lib.ListN.{length, take, drop, replicate, getD, set, length-append, length-take, length-drop, length-set, length-replicate, drop-of-length-le}
 use lib.Seq.{take-all, take-at, take-suc-set, length-take-le, drop-nil, drop-drop, drop-append-add, paste-suc}
 use borrow.Author.Tests.{eqb-true, eqb-false, eq-eqb, ne-eqb, le-leb, lt-leb}
@@ -57,10 +57,6 @@ cleared-twice ws n h =
 pub to-end : (ws : List ℕ) (from : ℕ) → take (length ws - from) (drop from ws) ≡ drop from ws
 to-end ws from = take-all (length ws - from) (drop from ws) (omega (arith, length-drop from ws))
 
-pub length-overlaid : (dst src : List ℕ) → length (overlaid dst src) ≡ length dst
-unfolding overlaid
-length-overlaid dst src = simp (length-append, length-take, length-drop) (omega arith)
-
 -- with the number of words that both have: that many of the one, and the rest of the other
 pub overlaid-is : (dst src : List ℕ) (i : ℕ) → i ≡ min (length dst) (length src) → overlaid dst src ≡ take i src ++ drop i dst
 unfolding overlaid
@@ -105,12 +101,6 @@ agreed-differ right-ends p q e = omega arith
 agreed-differ (differ h) p q e = h e
 agreed-differ (agree h r) p q e = agreed-differ r (omega arith) (omega arith) e
 
-agreed-within : {as′ bs : List ℕ} {n : ℕ} → Agreed as′ bs n → (n ≤ length as′) × (n ≤ length bs)
-agreed-within left-ends = omega arith
-agreed-within right-ends = omega arith
-agreed-within (differ h) = omega arith
-agreed-within (agree e r) = omega (arith, agreed-within r)
-
 -- the words that agree are the same words
 pub agreeing-take : (as′ bs : List ℕ) → take (agreeing as′ bs) as′ ≡ take (agreeing as′ bs) bs
 agreeing-take as′ bs = agreed-take (agreed as′ bs)
@@ -118,12 +108,6 @@ agreeing-take as′ bs = agreed-take (agreed as′ bs)
 -- where neither run ends, the next words differ
 pub agreeing-differ : (as′ bs : List ℕ) → agreeing as′ bs < length as′ → agreeing as′ bs < length bs → getD as′ (agreeing as′ bs) 0 ≡ getD bs (agreeing as′ bs) 0 → ⊥
 agreeing-differ as′ bs = agreed-differ (agreed as′ bs)
-
-pub agreeing-left : (as′ bs : List ℕ) → agreeing as′ bs ≤ length as′
-agreeing-left as′ bs = agreed-within (agreed as′ bs) .0
-
-pub agreeing-right : (as′ bs : List ℕ) → agreeing as′ bs ≤ length bs
-agreeing-right as′ bs = agreed-within (agreed as′ bs) .1
 
 -- the other way round: only one number is as these laws say
 pub agreeing-is : (as′ bs : List ℕ) (i : ℕ) → i ≤ length as′ → i ≤ length bs → take i as′ ≡ take i bs → (i < length as′ → i < length bs → getD as′ i 0 ≡ getD bs i 0 → ⊥) → agreeing as′ bs ≡ i
@@ -136,9 +120,6 @@ agreeing-is (a ∷ as′) [] (suc i) p q e d = omega arith
 agreeing-is (a ∷ as′) (b ∷ bs) (suc i) p q e d =
     let r = agreeing-is as′ bs i (omega arith) (omega arith) (tail-eq-of-cons-eq e) (λ p′ q′. d (omega arith) (omega arith)) in
     rw (eq-eqb a b (head-eq-of-cons-eq e), r)
-
-pub agreeing-self : (as′ : List ℕ) → agreeing as′ as′ ≡ length as′
-agreeing-self as′ = agreeing-is as′ as′ (length as′) (omega arith) (omega arith) refl (λ p. omega arith)
 
 -- ---- sameness
 pub same-words : (ws : List ℕ) → sameWords ws ws ≡ true
@@ -156,17 +137,21 @@ same-words-eq (v ∷ vs) (w ∷ ws) e =
     let h = eqb-true v w (r .0) in
     let t = same-words-eq vs ws (r .1) in cc
 
--- two runs of one length are the same where all their words agree
-pub same-agreeing : (xs ys : List ℕ) → length xs ≡ length ys → sameWords xs ys ≡ eqb (agreeing xs ys) (length xs)
-unfolding sameWords agreeing
-same-agreeing [] [] e = refl
-same-agreeing [] (y ∷ ys) e = absurd (omega arith)
-same-agreeing (x ∷ xs) [] e = absurd (omega arith)
-same-agreeing (x ∷ xs) (y ∷ ys) e = rw (same-agreeing xs ys (omega arith)) (go (eqb x y))
+-- one word more of each
+swap : (p q r : Bool) → (p && (q && r)) ≡ (q && (p && r))
+swap true q r = refl
+swap false true r = refl
+swap false false r = refl
+
+pub same-more : (i : ℕ) (xs ys : List ℕ) → i < length xs → i < length ys → sameWords (take (i + 1) xs) (take (i + 1) ys) ≡ (eqb (getD xs i 0) (getD ys i 0) && sameWords (take i xs) (take i ys))
+unfolding sameWords
+same-more i xs ys h k = rw add-one (go i xs ys h k)
   where
-    go : (b : Bool) → (b && eqb (agreeing xs ys) (length xs)) ≡ eqb (cond b (suc (agreeing xs ys)) 0) (suc (length xs))
-    go true = sym (eqb·suc-suc (agreeing xs ys) (length xs))
-    go false = sym (eqb·zero-suc (length xs))
+    go : (i : ℕ) (xs ys : List ℕ) → i < length xs → i < length ys → sameWords (take (suc i) xs) (take (suc i) ys) ≡ (eqb (getD xs i 0) (getD ys i 0) && sameWords (take i xs) (take i ys))
+    go i [] ys h k = absurd (omega arith)
+    go i (x ∷ xs) [] h k = absurd (omega arith)
+    go zero (x ∷ xs) (y ∷ ys) h k = refl
+    go (suc i) (x ∷ xs) (y ∷ ys) h k = rw (go i xs ys (omega arith) (omega arith)) (swap (eqb x y) (eqb (getD xs i 0) (getD ys i 0)) (sameWords (take i xs) (take i ys)))
 
 -- runs of other lengths are not the same
 pub same-lengths : (xs ys : List ℕ) → length xs ≢ length ys → sameWords xs ys ≡ false

@@ -1,8 +1,20 @@
 // Runs of words as such: clearing, copying and comparing them.
 ghost use mathlib.Core.Path.{_≡_};
+ghost use mathlib.Core.Bool.{_&&_};
 ghost use Prim.Native.Nat.{_+_, min};
-ghost use lib.ListN.{length};
+ghost use lib.Dec.{eqb};
+ghost use lib.ListN.{length, getD};
 ghost use Rattle.words.specs.Words.{cleared, overlaid, agreeing, sameWords, laid};
+
+// The word at an offset, and 0 where there is none.
+pub fn word_at(ws: &[u16], i: usize) -> u16
+    ensures { λ r. ⌜ r ≡ getD (now (ws .entry)) i 0 ⌝ }
+{
+    if i < ws.len() {
+        return ws[i];
+    }
+    0
+}
 
 // Zeros from the offset `at` on; the words below it stay.
 pub fn clear_from(ws: &mut [u16], at: usize)
@@ -48,14 +60,30 @@ pub fn first_difference(a: &[u16], b: &[u16]) -> usize
     i
 }
 
-// Whether two runs are the same word by word.
+fn agrees(before: bool, x: u16, y: u16) -> bool
+    ensures { λ r. ⌜ r ≡ (eqb x y && before) ⌝ }
+{
+    if x == y {
+        return before;
+    }
+    false
+}
+
+// Whether two runs are the same word by word. It looks at all words, so that it is compiled to tests of many at a time: most runs that are compared are short, and the same.
 pub fn same(a: &[u16], b: &[u16]) -> bool
     ensures { λ r. ⌜ r ≡ sameWords (now (a .entry)) (now (b .entry)) ⌝ }
 {
     if a.len() != b.len() {
         return false;
     }
-    first_difference(a, b) == a.len()
+    let n = a.len();
+    let mut alike = true;
+    let mut i = 0;
+    while i < n {
+        alike = agrees(alike, a[i], b[i]);
+        i += 1;
+    }
+    alike
 }
 
 // Lays `src` over `out` from `at` on and answers the end, where there is room for all of it; else it changes nothing and answers one more than the

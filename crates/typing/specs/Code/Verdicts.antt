@@ -1,26 +1,29 @@
 -- The answer of typing a part, as the code gives it.
 use mathlib.Core.Path.{_≡_}
-use mathlib.Core.Bool.{true, false, cond}
+use mathlib.Core.Bool.{Bool, true, false, cond}
 use mathlib.Core.List.{List, [], _∷_}
-use mathlib.Core.Option.{Option, some, none}
+use mathlib.Core.Option.{Option, some}
 use Prim.Native.Nat.{ℕ, _+_, _*_, _/_, _%_, _≤_, _<_}
 use lib.Dec.{eqb, ltb}
 use lib.ListN.{length, getD}
-use Rattle.term.specs.declared.heads.Class.the-variants.{Index, Scalar}
+use Rattle.term.specs.declared.heads.Class.the-variants.{Index, Basis, Scalar, Ket, Bra, Operator}
 use Rattle.term.specs.Parts.{parse, part, treeIn}
 use Rattle.term.specs.Terms.{partDepth, termWords}
+use Rattle.typing.specs.declared.sorts.Sorted as S
+use Rattle.typing.specs.declared.lookup.Entry as E
 use Rattle.typing.specs.declared.infer.Verdict as Answer
 use Rattle.typing.specs.declared.terms.Typing as A
 use Rattle.typing.specs.Answers.{refuse, answerOf}
-use Rattle.typing.specs.Code.Shapes.{Shape, shape, shapeOf, run, sizes, Lies, Above}
-use Rattle.typing.specs.Code.Conclude.{given}
-use Rattle.declarations.specs.Declarations.{basisIn, variableIn, contextIn, namesIn}
+use Rattle.typebook.specs.Shapes.{Shape, shape, shapeOf, given}
+use Rattle.typing.specs.Code.Shapes.{shapeAt, Small, Above, plain}
+use Rattle.typing.specs.Code.Conclude.{runOf}
+use Rattle.declarations.specs.Declarations.{basisAt, variableAt, basisIn, variableIn, contextIn, namesIn}
 use Rattle.types.specs.Sorts.{Sort, basis, Context}
 use Rattle.types.specs.TypeOf.{typed, untyped, typeOf}
 
 -- an untyped part, by its offset
 abbrev pub refusal : ℕ → Answer.Verdict
-refusal k = record { typed = false; at = k; size = 0; depth = 0; sorted = sizes (shape Scalar [] []) }
+refusal k = record { typed = false; at = k; size = 0; depth = 0; sorted = plain }
 
 -- ---- a head without children, by its word: a name as declared, or the scalar 0 or 1
 unfoldable pub leafOf : List ℕ → ℕ → Option Shape
@@ -30,9 +33,38 @@ leafOf ds w =
     (cond (eqb (w / 256) 26) (given (ltb (w % 256) (getD ds 2 0)) (some (shapeOf (variableIn ds (w % 256)))))
     (some (shape Scalar [] []))))
 
+-- a variable's sort in numbers, by its kind and the lengths of its two indices
+abbrev pub sortedBy : ℕ → ℕ → ℕ → S.Sorted
+sortedBy k n m =
+    cond (eqb k 0) plain
+    (cond (eqb k 1) (record { class = Ket; left = n; right = 0 })
+    (cond (eqb k 2) (record { class = Bra; left = 0; right = n })
+    (record { class = Operator; left = n; right = m })))
+
+-- what is declared of a name, in numbers
+abbrev pub bareEntry : Bool → E.Entry
+bareEntry b = record { typed = b; sorted = plain; left = runOf 0 0; right = runOf 0 0 }
+
+unfoldable pub basisEntry : List ℕ → ℕ → E.Entry
+basisEntry ds a =
+    let n = getD ds (basisAt a) 0 in
+    record { typed = true; sorted = record { class = Basis; left = n; right = 0 }; left = runOf (basisAt a + 1) n; right = runOf 0 0 }
+
+unfoldable pub variableEntry : List ℕ → ℕ → E.Entry
+variableEntry ds a =
+    let at = variableAt a in
+    let n = getD ds (at + 1) 0 in
+    let m = getD ds (at + 2) 0 in
+    record { typed = true; sorted = sortedBy (getD ds at 0) n m; left = runOf (at + 3) n; right = runOf (at + 66) m }
+
+unfoldable pub entryOf : List ℕ → ℕ → E.Entry
+entryOf ds w =
+    cond (eqb (w / 256) 3) (cond (ltb (w % 256) (getD ds 1 0)) (basisEntry ds (w % 256)) (bareEntry false))
+    (cond (eqb (w / 256) 26) (cond (ltb (w % 256) (getD ds 2 0)) (variableEntry ds (w % 256)) (bareEntry false)) (bareEntry true))
+
 -- the words that the typing of a part no deeper than so much may take
 abbrev pub room : ℕ → ℕ
-room budget = 127 * budget + 257
+room budget = 126 * budget + 126
 
 -- a typed part: it is whole and no deeper than the budget, and its words stand on the stack
 pub record Settled (Γ : Context) (ws : List ℕ) (budget top : ℕ) (r : Answer.Verdict) (st : List ℕ) : Type 0 where
@@ -42,8 +74,8 @@ pub record Settled (Γ : Context) (ws : List ℕ) (budget top : ℕ) (r : Answer
   pub size : r .size ≡ length (part ws 0)
   pub depth : r .depth ≡ partDepth ws 0
   pub shallow : partDepth ws 0 ≤ budget
-  pub sorted : r .sorted ≡ sizes (shapeOf sort)
-  pub lies : Lies st top (run (shapeOf sort))
+  pub small : Small (r .sorted)
+  pub sorted : shapeAt st top (r .sorted) ≡ shapeOf sort
 
 -- any other: no whole part, or a deeper one, or untyped, at this offset
 abbrev pub Unsettled : Context → List ℕ → ℕ → Answer.Verdict → Type 0

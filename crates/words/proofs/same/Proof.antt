@@ -1,19 +1,61 @@
--- Runs of other lengths differ, and those of one length are the same where they agree up to the end.
-use mathlib.Core.Path.{sym}
+-- Runs of other lengths differ. The invariant: whether the first `i` words of both are the same. The measure is how many are left.
+use mathlib.Core.Path.{_≡_, sym, _∙_}
+use Prim.Native.Nat.{_-_, _≤_}
 use native.Mathlib.Omega.{arith}
 use borrow.Author.Needs.{needs}
-use Rattle.words.proofs.Runs.{same-lengths, same-agreeing}
+use lib.ListN.{take}
+use lib.Seq.{take-all}
+use Rattle.words.specs.Words.{sameWords}
+use Rattle.words.proofs.Runs.{same-lengths, same-more}
 use Rattle.words.proofs.same.Statement.{statement}
 use Rattle.words.proofs.same.Tie as tie
 
-returns : tie.Need-returns
+abbrev Inv-loop : tie.InvT-loop
+Inv-loop a b n alike₀ i₀ alike i = (i ≤ n) × (alike ≡ sameWords (take i a) (take i b))
+
+abbrev μ-loop : tie.MeasureT-loop
+μ-loop a b n alike₀ i₀ alike i = n - i
+
+returns : tie.Need-returns Inv-loop μ-loop
 returns c = sym (same-lengths _ _ (c .if1 .taken))
 
-first-difference-requires : tie.Need-first-difference-requires
-first-difference-requires c κs = search needs
+loop-holds : tie.Need-loop-holds Inv-loop μ-loop
+unfolding sameWords
+loop-holds c = search needs
 
-returns-2 : tie.Need-returns-2
-returns-2 c = rw (c .first-difference .ensures) (sym (same-agreeing _ _ (omega arith)))
+mul-agrees : tie.Need-mul-agrees Inv-loop μ-loop
+mul-agrees c = search needs
+
+shared-slice-read-agrees : tie.Need-shared-slice-read-agrees Inv-loop μ-loop
+shared-slice-read-agrees c = search needs
+
+mul-agrees-2 : tie.Need-mul-agrees-2 Inv-loop μ-loop
+mul-agrees-2 c = search needs
+
+shared-slice-read-agrees-2 : tie.Need-shared-slice-read-agrees-2 Inv-loop μ-loop
+shared-slice-read-agrees-2 c = search needs
+
+agrees-requires : tie.Need-agrees-requires Inv-loop μ-loop
+agrees-requires c κs = search needs
+
+add-i : tie.Need-add-i Inv-loop μ-loop
+add-i c = search needs
+
+loop-less : tie.Need-loop-less Inv-loop μ-loop
+loop-less c = search needs
+
+loop-again : tie.Need-loop-again Inv-loop μ-loop
+loop-again c =
+    let loop = c .before .before .before .before .loop in
+    let z = c .before .before .before .before .before .if1 .left in
+    (omega arith, c .agrees .ensures ∙ rw (loop .inv .1) (sym (same-more (loop .i) _ _ (omega arith) (omega arith))))
+
+returns-2 : tie.Need-returns-2 Inv-loop μ-loop
+returns-2 c =
+    let loop = c .before .loop in
+    let z = c .before .before .if1 .left in
+    let args = c .before .before .before .before .before .args in
+    loop .inv .1 ∙ rw (take-all (loop .i) (args .a .now) (omega arith), take-all (loop .i) (args .b .now) (omega arith))
 
 pub same-spec : {M : Type 1} → statement M
-same-spec = tie.close (tie.spec returns first-difference-requires returns-2)
+same-spec = tie.close (tie.spec Inv-loop μ-loop returns loop-holds mul-agrees shared-slice-read-agrees mul-agrees-2 shared-slice-read-agrees-2 agrees-requires add-i loop-less loop-again returns-2)

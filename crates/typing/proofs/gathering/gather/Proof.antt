@@ -4,23 +4,23 @@ use borrow.Author.Needs.{needs}
 use Rattle.typing.proofs.gathering.gather.Statement.{statement}
 use Rattle.typing.proofs.gathering.gather.Tie as tie
 
-add-t8 : tie.Need-add-t8
-add-t8 c = search needs
-
 add-t9 : tie.Need-add-t9
 add-t9 c = search needs
 
+add-t10 : tie.Need-add-t10
+add-t10 c = search needs
+
 returns : tie.Need-returns
-returns c = (λ z. refl, λ h. absurd (h (c .before .if1 .taken)))
+returns c = (λ z. refl, λ h. absurd (h (c .before .before .if1 .taken)))
 
 are-alike-requires : tie.Need-are-alike-requires
 are-alike-requires c κs = search needs
 
 returns-2 : tie.Need-returns-2
-returns-2 c = (λ z. absurd (c .before .before .before .if1 .left z), λ h x y p q l. rw (c .before .if2 .taken, c .are-alike .ensures x y p q l))
+returns-2 c = (λ z. absurd (c .before .before .before .if1 .left z), λ h. rw (c .before .if2 .taken, c .are-alike .ensures))
 
 returns-3 : tie.Need-returns-3
-returns-3 c = (λ z. absurd (c .before .before .if1 .left z), λ h x y p q l. rw (c .if2 .left))
+returns-3 c = (λ z. absurd (c .before .before .if1 .left z), λ h. rw (c .if2 .left))
 
 pub gather-spec : {M : Type 1} → statement M
-gather-spec = tie.close (tie.spec add-t8 add-t9 returns are-alike-requires returns-2 returns-3)
+gather-spec = tie.close (tie.spec add-t9 add-t10 returns are-alike-requires returns-2 returns-3)

@@ -1,34 +1,30 @@
 -- The measure of the recursion is the budget. The loop's invariant: the children passed so far have sorts, whose numbers are gathered, and the words of the first and the latest
 -- stand on the stack (`Walked`); its measure is how many are still to come.
-use mathlib.Core.Path.{_≡_, refl, sym, _∙_}
-use mathlib.Core.Bool.{true, false}
-use Prim.Native.Nat.{ℕ, _+_, _-_, _≤_, _<_}
+use mathlib.Core.Path.{sym, _∙_, ap}
+use Prim.Native.Nat.{ℕ, _-_, _/_, _≤_, _<_}
 use native.Mathlib.Omega.{arith}
 use borrow.Author.Needs.{needs}
 use borrow.Author.Tests.{not-true, not-false}
 use borrow.Fn.Kinds.{In}
 use borrow.Fn.PlainCycle.{Measures, is, falls, and}
-use lib.ListN.{length, getD, length-drop}
+use lib.ListN.{length-drop}
 use Rattle.words.proofs.Runs.{to-end}
-use Rattle.term.specs.Parts.{part}
 use Rattle.term.proofs.Scan.{children-few}
 use Rattle.declarations.specs.Declarations.{contextIn}
-use Rattle.declarations.proofs.Entries.{declarations, well-formed}
-use Rattle.typing.proofs.Passing.{found-none, no-words, no-head, no-budget, found-child}
-use Rattle.typing.proofs.Walked.{Walked, found-from, leaf-found, walked-none, walked-more, walked-all, free-at, base-near, latest-small, child-small, child-inside}
-use Rattle.typing.proofs.Children.{product-two}
+use Rattle.typing.proofs.Passing.{found-none, no-head, no-budget, found-child}
+use Rattle.typing.proofs.Walked.{Walked, leaf-found, walked-none, walked-more, walked-all, free-at, ready, child-inside}
 use Rattle.typing.proofs.infer.type_part.Reads as type-part
 use Rattle.typing.proofs.infer.type_part.Kinds as type-part-kinds
 use Rattle.typing.proofs.infer.+type_part.Lts-type_part as type-part-lts
+use Rattle.words.proofs.word_at.Reads as word-at-reads
 use Rattle.term.proofs.heads.arity_of.Reads as arity-of-reads
-use Rattle.typing.proofs.gathering.conclude_children.Reads as conclude-children-reads
+use Rattle.term.proofs.terms.larger.Reads as larger-reads
 use Rattle.typing.proofs.gathering.gather.Reads as gather-reads
 use Rattle.typing.proofs.gathering.none_yet.Reads as none-yet-reads
 use Rattle.typing.proofs.infer.conclude_leaf.Reads as conclude-leaf-reads
-use Rattle.typing.proofs.infer.larger.Reads as larger-reads
-use Rattle.typing.proofs.infer.open.Reads as open-reads
 use Rattle.typing.proofs.infer.refused.Reads as refused-reads
 use Rattle.typing.proofs.infer.settled.Reads as settled-reads
+use Rattle.typing.proofs.rules.conclude.Reads as conclude-reads
 use Rattle.typing.proofs.infer.+type_part.{statement}
 use Rattle.typing.proofs.infer.+type_part.Tie.{close}
 
@@ -46,14 +42,14 @@ abbrev claims : ℕ → type-part-lts.Claims
 claims t = (
   refused-reads.Asked,
   refused-reads.Learnt,
+  word-at-reads.Asked,
+  word-at-reads.Learnt,
   arity-of-reads.Asked,
   arity-of-reads.Learnt,
   conclude-leaf-reads.Asked,
   conclude-leaf-reads.Learnt,
   settled-reads.Asked,
   settled-reads.Learnt,
-  open-reads.Asked,
-  open-reads.Learnt,
   none-yet-reads.Asked,
   none-yet-reads.Learnt,
   type-part-below t,
@@ -62,15 +58,15 @@ claims t = (
   gather-reads.Learnt,
   larger-reads.Asked,
   larger-reads.Learnt,
-  conclude-children-reads.Asked,
-  conclude-children-reads.Learnt,
+  conclude-reads.Asked,
+  conclude-reads.Learnt,
 )
 
 abbrev type-part-Inv-loop : type-part-lts.InvT-loop
-type-part-Inv-loop ds ws stack₀ top budget word n head base g₀ deepest₀ next₀ k₀ stack g deepest next k = (k ≤ n) × Walked (contextIn ds) ws budget top head base next k deepest g stack₀ stack
+type-part-Inv-loop ds ws stack₀ top budget word n head g₀ deepest₀ next₀ k₀ stack g deepest next k = (k ≤ n) × Walked (contextIn ds) ws budget top head next k deepest g stack₀ stack
 
 abbrev type-part-μ-loop : type-part-lts.MeasureT-loop
-type-part-μ-loop ds ws stack₀ top budget word n head base g₀ deepest₀ next₀ k₀ stack g deepest next k = n - k
+type-part-μ-loop ds ws stack₀ top budget word n head g₀ deepest₀ next₀ k₀ stack g deepest next k = n - k
 
 type-part-refused-requires : (t : ℕ) → type-part-lts.Need-refused-requires (claims t) (type-part-at t) type-part.Post type-part-Inv-loop type-part-μ-loop
 type-part-refused-requires t c κs = search needs
@@ -78,14 +74,8 @@ type-part-refused-requires t c κs = search needs
 type-part-returns : (t : ℕ) → type-part-lts.Need-returns (claims t) (type-part-at t) type-part.Post type-part-Inv-loop type-part-μ-loop
 type-part-returns t c = found-none (c .refused .ensures) (λ h s. no-budget _ (c .before .if1 .taken) h s)
 
-type-part-refused-requires-2 : (t : ℕ) → type-part-lts.Need-refused-requires-2 (claims t) (type-part-at t) type-part.Post type-part-Inv-loop type-part-μ-loop
-type-part-refused-requires-2 t c κs = search needs
-
-type-part-returns-2 : (t : ℕ) → type-part-lts.Need-returns-2 (claims t) (type-part-at t) type-part.Post type-part-Inv-loop type-part-μ-loop
-type-part-returns-2 t c = found-none (c .refused2 .ensures) (λ h s. no-words _ (c .before .if2 .taken) h)
-
-type-part-shared-slice-read-word : (t : ℕ) → type-part-lts.Need-shared-slice-read-word (claims t) (type-part-at t) type-part.Post type-part-Inv-loop type-part-μ-loop
-type-part-shared-slice-read-word t c = search needs
+type-part-word-at-requires : (t : ℕ) → type-part-lts.Need-word-at-requires (claims t) (type-part-at t) type-part.Post type-part-Inv-loop type-part-μ-loop
+type-part-word-at-requires t c κs = search needs
 
 type-part-arity-of-requires : (t : ℕ) → type-part-lts.Need-arity-of-requires (claims t) (type-part-at t) type-part.Post type-part-Inv-loop type-part-μ-loop
 type-part-arity-of-requires t c κs = search needs
@@ -96,18 +86,18 @@ type-part-enum-known-n t c = search needs
 type-part-enum-told : (t : ℕ) → type-part-lts.Need-enum-told (claims t) (type-part-at t) type-part.Post type-part-Inv-loop type-part-μ-loop
 type-part-enum-told t c = search needs
 
-type-part-refused-requires-3 : (t : ℕ) → type-part-lts.Need-refused-requires-3 (claims t) (type-part-at t) type-part.Post type-part-Inv-loop type-part-μ-loop
-type-part-refused-requires-3 t c κs = search needs
+type-part-refused-requires-2 : (t : ℕ) → type-part-lts.Need-refused-requires-2 (claims t) (type-part-at t) type-part.Post type-part-Inv-loop type-part-μ-loop
+type-part-refused-requires-2 t c κs = search needs
 
-type-part-returns-3 : (t : ℕ) → type-part-lts.Need-returns-3 (claims t) (type-part-at t) type-part.Post type-part-Inv-loop type-part-μ-loop
-type-part-returns-3 t c = found-none (c .refused3 .ensures) (λ h s. no-head _ (sym (c .before .before .before .arity-of .ensures) ∙ c .before .enum-told .given .1) h)
+type-part-returns-2 : (t : ℕ) → type-part-lts.Need-returns-2 (claims t) (type-part-at t) type-part.Post type-part-Inv-loop type-part-μ-loop
+type-part-returns-2 t c = found-none (c .refused2 .ensures) (λ h s. no-head _ (rw (c .before .before .before .before .word-at .ensures) at (sym (c .before .before .before .arity-of .ensures) ∙ c .before .enum-told .given .1)) h)
 
 type-part-conclude-leaf-requires : (t : ℕ) → type-part-lts.Need-conclude-leaf-requires (claims t) (type-part-at t) type-part.Post type-part-Inv-loop type-part-μ-loop
 type-part-conclude-leaf-requires t c κs =
-    let start = c .before .before .before .before .before .before .before .before .before .before .before .before in
-    let l = declarations _ (start .pre .1 .0) .long in
+    let start = c .before .before .before .before .before .before .before .before .before .before .before in
     let r = start .pre .1 .1 in
-    let b = c .before .before .before .before .before .before .before .before .if1 .left in (start .pre .1 .0, omega arith, omega arith)
+    let b = c .before .before .before .before .before .before .before .if1 .left in
+    (start .pre .1 .0, omega arith)
 
 type-part-settled-requires : (t : ℕ) → type-part-lts.Need-settled-requires (claims t) (type-part-at t) type-part.Post type-part-Inv-loop type-part-μ-loop
 type-part-settled-requires t c κs = search needs
@@ -115,26 +105,23 @@ type-part-settled-requires t c κs = search needs
 type-part-same-length : (t : ℕ) → type-part-lts.Need-same-length (claims t) (type-part-at t) type-part.Post type-part-Inv-loop type-part-μ-loop
 type-part-same-length t c = search needs
 
-type-part-returns-4 : (t : ℕ) → type-part-lts.Need-returns-4 (claims t) (type-part-at t) type-part.Post type-part-Inv-loop type-part-μ-loop
-type-part-returns-4 t c =
-    leaf-found (c .before .before .before .before .before .before .before .before .before .before .before .before .before .before .before .before .args .ds .now) (sym (c .before .before .before .before .before .before .before .before .before .arity-of .ensures) ∙ c .before .before .before .before .before .before .before .n .given .1) (c .before .before .before .before .before .if3 .taken) (let l = c .before .before .before .before .before .before .before .before .before .before .before .if2 .left in omega arith) (let b = c .before .before .before .before .before .before .before .before .before .before .before .before .if1 .left in omega arith)
-    (c .before .before .before .conclude-leaf .ensures) (c .settled .ensures)
+type-part-returns-3 : (t : ℕ) → type-part-lts.Need-returns-3 (claims t) (type-part-at t) type-part.Post type-part-Inv-loop type-part-μ-loop
+type-part-returns-3 t c =
+    let told = c .before .before .before .before .before .before in
+    let b = told .before .before .before .before .before .if1 .left in
+    leaf-found (told .before .before .before .before .before .before .before .before .before .args .ds .now) (rw (told .before .before .before .before .word-at .ensures) at (sym (told .before .before .before .arity-of .ensures) ∙ told .before .n .given .1)) (c .before .before .before .before .before .if2 .taken) (omega arith) (rw (told .before .before .before .before .word-at .ensures) at (c .before .before .before .conclude-leaf .ensures)) (c .settled .ensures)
 
 type-part-cast-head : (t : ℕ) → type-part-lts.Need-cast-head (claims t) (type-part-at t) type-part.Post type-part-Inv-loop type-part-μ-loop
-type-part-cast-head t c = omega (arith, c .before .before .before .before .before .shared-slice-known3 .given 0)
-
-type-part-open-requires : (t : ℕ) → type-part-lts.Need-open-requires (claims t) (type-part-at t) type-part.Post type-part-Inv-loop type-part-μ-loop
-type-part-open-requires t c κs = search needs
+type-part-cast-head t c = search needs
 
 type-part-none-yet-requires : (t : ℕ) → type-part-lts.Need-none-yet-requires (claims t) (type-part-at t) type-part.Post type-part-Inv-loop type-part-μ-loop
 type-part-none-yet-requires t c κs = search needs
 
 type-part-loop-holds : (t : ℕ) → type-part-lts.Need-loop-holds (claims t) (type-part-at t) type-part.Post type-part-Inv-loop type-part-μ-loop
 type-part-loop-holds t c =
-    let o = c .before .before .before .open .ensures in
-    let b = c .before .before .before .before .before .before .before .before .before .before .before .before .if1 .left in
-    let l = c .before .before .before .before .before .before .before .before .before .before .before .if2 .left in
-    (omega arith, walked-none (omega arith) (omega arith) (o .0) (o .2) (c .none-yet .ensures))
+    let told = c .before .before in
+    let b = told .before .before .before .before .before .if1 .left in
+    (omega arith, walked-none (rw (told .before .before .before .before .word-at .ensures) at (sym (told .before .before .before .arity-of .ensures) ∙ told .before .n .given .1)) (omega arith) (c .none-yet .ensures))
 
 type-part-mul-type-part : (t : ℕ) → type-part-lts.Need-mul-type-part (claims t) (type-part-at t) type-part.Post type-part-Inv-loop type-part-μ-loop
 type-part-mul-type-part t c = search needs
@@ -153,89 +140,95 @@ type-part-sub-type-part-2 t c = search needs
 
 type-part-type-part-requires : (t : ℕ) → type-part-lts.Need-type-part-requires (claims t) (type-part-at t) type-part.Post type-part-Inv-loop type-part-μ-loop
 type-part-type-part-requires t c κs =
-    let start = c .before .before .before .before .before .before .before .before .before .before .before .before .before .before .before .before .before .before .before .before in
-    let w = c .before .before .before .loop .inv .1 in
+    let at = c .before .before .before in
+    let start = at .before .before .before .before .before .before .before .before .before .before .before .before in
+    let w = at .loop .inv .1 in
     let f = free-at w .upTo in
-    let b = base-near w .1 in
     let l = w .kept .long in
     let r = start .pre .1 .1 in
-    let m = start .pre .1 .2 in
-    let z = c .before .before .before .before .before .before .before .before .before .before .before .before .before .before .before .before .if1 .left in
-    let t = start .pre .0 in (omega arith, (start .pre .1 .0, omega arith, omega arith))
+    let v = start .pre .1 .2 in
+    let m = start .pre .1 .3 in
+    let z = at .before .before .before .before .before .before .before .before .if1 .left in
+    let u = start .pre .0 in
+    (omega arith, (start .pre .1 .0, omega arith, omega arith, omega arith))
 
 type-part-add-refused : (t : ℕ) → type-part-lts.Need-add-refused (claims t) (type-part-at t) type-part.Post type-part-Inv-loop type-part-μ-loop
 type-part-add-refused t c =
-    let ws = c .before .before .before .before .before .before .before .before .before .before .before .before .before .before .before .before .before .before .before .before .before .before .before .before .before .before .args .ws .now in
-    let w = c .before .before .before .before .before .before .before .before .before .loop .inv .1 in
-    let f = rw (to-end ws (c .before .before .before .before .before .before .before .before .before .loop .next)) at (c .before .before .before .before .before .type-part .ensures) in
-    omega (arith, c .before .before .before .before .before .before .before .before .before .before .before .before .before .before .before .before .before .before .before .before .before .before .before .before .before .before .good .1 .0, length-drop (c .before .before .before .before .before .before .before .before .before .loop .next) ws, f .bound, w .inside)
+    let at = c .before .before .before .before .before .before .before .before .before in
+    let start = at .before .before .before .before .before .before .before .before .before .before .before .before in
+    let f = rw (to-end (start .args .ws .now) (at .loop .next)) at (c .before .before .before .before .before .type-part .ensures) in
+    omega (arith, start .good .1 .0, length-drop (at .loop .next) (start .args .ws .now), f .bound, at .loop .inv .1 .inside)
 
-type-part-refused-requires-4 : (t : ℕ) → type-part-lts.Need-refused-requires-4 (claims t) (type-part-at t) type-part.Post type-part-Inv-loop type-part-μ-loop
-type-part-refused-requires-4 t c κs = search needs
+type-part-refused-requires-3 : (t : ℕ) → type-part-lts.Need-refused-requires-3 (claims t) (type-part-at t) type-part.Post type-part-Inv-loop type-part-μ-loop
+type-part-refused-requires-3 t c κs = search needs
 
 type-part-same-length-2 : (t : ℕ) → type-part-lts.Need-same-length-2 (claims t) (type-part-at t) type-part.Post type-part-Inv-loop type-part-μ-loop
-type-part-same-length-2 t c = c .before .before .before .before .before .before .type-part .ensures .kept .long ∙ c .before .before .before .before .before .before .before .before .before .before .loop .inv .1 .kept .long ∙ c .before .before .before .before .before .before .before .before .before .before .before .before .before .before .open .ensures .1 .long
+type-part-same-length-2 t c = c .before .before .before .before .before .before .type-part .ensures .kept .long ∙ c .before .before .before .before .before .before .before .before .before .before .loop .inv .1 .kept .long
 
-type-part-returns-5 : (t : ℕ) → type-part-lts.Need-returns-5 (claims t) (type-part-at t) type-part.Post type-part-Inv-loop type-part-μ-loop
-type-part-returns-5 t c =
-    let ws = c .before .before .before .before .before .before .before .before .before .before .before .before .before .before .before .before .before .before .before .before .before .before .before .before .before .before .before .args .ws .now in
-    let w = c .before .before .before .before .before .before .before .before .before .before .loop .inv .1 in
-    let f = rw (to-end ws (c .before .before .before .before .before .before .before .before .before .before .loop .next)) at (c .before .before .before .before .before .before .type-part .ensures) in
-    found-from (c .before .before .before .before .before .before .before .before .before .before .before .before .before .before .open .ensures .1)
-    (found-child (w .passed) (sym (c .before .before .before .before .before .before .before .before .before .before .before .before .before .before .before .before .before .before .before .before .arity-of .ensures) ∙ c .before .before .before .before .before .before .before .before .before .before .before .before .before .before .before .before .before .before .n .given .1) (c .before .before .before .before .before .before .before .before .before .loop-test .taken) (w .inside) _ (w .kept) (let b = base-near w .0 in let u = free-at w .from in omega arith) f (not-true _ (c .before .before .if4 .taken)) (c .refused4 .ensures))
+type-part-returns-4 : (t : ℕ) → type-part-lts.Need-returns-4 (claims t) (type-part-at t) type-part.Post type-part-Inv-loop type-part-μ-loop
+type-part-returns-4 t c =
+    let at = c .before .before .before .before .before .before .before .before .before .before in
+    let start = at .before .before .before .before .before .before .before .before .before .before .before .before in
+    let f = rw (to-end (start .args .ws .now) (at .loop .next)) at (c .before .before .before .before .before .before .type-part .ensures) in
+    let w = at .loop .inv .1 in
+    found-child (w .passed) (rw (at .before .before .before .before .before .before .before .word-at .ensures) at (sym (at .before .before .before .before .before .before .arity-of .ensures) ∙ at .before .before .before .before .n .given .1)) (c .before .before .before .before .before .before .before .before .before .loop-test .taken) (w .inside) _ (w .kept) (free-at w .from) f (not-true _ (c .before .before .if3 .taken)) (c .refused3 .ensures)
 
 type-part-gather-requires : (t : ℕ) → type-part-lts.Need-gather-requires (claims t) (type-part-at t) type-part.Post type-part-Inv-loop type-part-μ-loop
 type-part-gather-requires t c κs =
-    let ws = c .before .before .before .before .before .before .before .before .before .before .before .before .before .before .before .before .before .before .before .before .before .before .before .before .before .before .before .args .ws .now in
-    let w = c .before .before .before .before .before .before .before .before .before .before .loop .inv .1 in
-    let f = rw (to-end ws (c .before .before .before .before .before .before .before .before .before .before .loop .next)) at (c .before .before .before .before .before .before .type-part .ensures) in
-    let W = well-formed (c .before .before .before .before .before .before .before .before .before .before .before .before .before .before .before .before .before .before .before .before .before .before .before .before .before .before .before .args .ds .now) (c .before .before .before .before .before .before .before .before .before .before .before .before .before .before .before .before .before .before .before .before .before .before .before .before .before .before .before .pre .1 .0) in
-    let s = f .settled (not-false _ (c .before .before .if4 .left)) in
-    let r = c .before .before .before .before .before .before .before .before .before .before .before .before .before .before .before .before .before .before .before .before .before .before .before .before .before .before .before .pre .1 .1 in
-    let b = base-near w .1 in
+    let at = c .before .before .before .before .before .before .before .before .before .before in
+    let start = at .before .before .before .before .before .before .before .before .before .before .before .before in
+    let f = rw (to-end (start .args .ws .now) (at .loop .next)) at (c .before .before .before .before .before .before .type-part .ensures) in
+    let w = at .loop .inv .1 in
+    let r = start .pre .1 .1 in
+    let u = free-at w .upTo in
     let l = w .kept .long in
     let m = f .kept .long in
-    let z = c .before .before .before .before .before .before .before .before .before .before .before .before .before .before .before .before .before .before .before .before .before .before .before .if1 .left in (omega arith, free-at w .small, child-small w W s)
+    let z = at .before .before .before .before .before .before .before .before .if1 .left in
+    (omega arith, omega arith, free-at w .small, f .settled (not-false _ (c .before .before .if3 .left)) .small)
 
 type-part-larger-requires : (t : ℕ) → type-part-lts.Need-larger-requires (claims t) (type-part-at t) type-part.Post type-part-Inv-loop type-part-μ-loop
 type-part-larger-requires t c κs = search needs
 
 type-part-add-next : (t : ℕ) → type-part-lts.Need-add-next (claims t) (type-part-at t) type-part.Post type-part-Inv-loop type-part-μ-loop
 type-part-add-next t c =
-    let ws = c .before .before .before .before .before .before .before .before .before .before .before .before .before .before .before .before .before .before .before .before .before .before .before .before .before .before .before .before .before .before .args .ws .now in
-    let w = c .before .before .before .before .before .before .before .before .before .before .before .before .before .loop .inv .1 in
-    let f = rw (to-end ws (c .before .before .before .before .before .before .before .before .before .before .before .before .before .loop .next)) at (c .before .before .before .before .before .before .before .before .before .type-part .ensures) in
-    let W = well-formed (c .before .before .before .before .before .before .before .before .before .before .before .before .before .before .before .before .before .before .before .before .before .before .before .before .before .before .before .before .before .before .args .ds .now) (c .before .before .before .before .before .before .before .before .before .before .before .before .before .before .before .before .before .before .before .before .before .before .before .before .before .before .before .before .before .before .pre .1 .0) in
-    let s = f .settled (not-false _ (c .before .before .before .before .before .if4 .left)) in
-    omega (arith, c .before .before .before .before .before .before .before .before .before .before .before .before .before .before .before .before .before .before .before .before .before .before .before .before .before .before .before .before .before .before .good .1 .0, child-inside w W s)
+    let at = c .before .before .before .before .before .before .before .before .before .before .before .before .before in
+    let start = at .before .before .before .before .before .before .before .before .before .before .before .before in
+    let f = rw (to-end (start .args .ws .now) (at .loop .next)) at (c .before .before .before .before .before .before .before .before .before .type-part .ensures) in
+    omega (arith, start .good .1 .0, child-inside (at .loop .inv .1) (f .settled (not-false _ (c .before .before .before .before .before .if3 .left))))
 
 type-part-add-k : (t : ℕ) → type-part-lts.Need-add-k (claims t) (type-part-at t) type-part.Post type-part-Inv-loop type-part-μ-loop
-type-part-add-k t c = omega (arith, children-few _ _ (sym (c .before .before .before .before .before .before .before .before .before .before .before .before .before .before .before .before .before .before .before .before .before .before .before .arity-of .ensures) ∙ c .before .before .before .before .before .before .before .before .before .before .before .before .before .before .before .before .before .before .before .before .before .n .given .1))
+type-part-add-k t c =
+    let at = c .before .before .before .before .before .before .before .before .before .before .before .before .before in
+    omega (arith, children-few _ _ (rw (at .before .before .before .before .before .before .before .word-at .ensures) at (sym (at .before .before .before .before .before .before .arity-of .ensures) ∙ at .before .before .before .before .n .given .1)))
 
 type-part-loop-less : (t : ℕ) → type-part-lts.Need-loop-less (claims t) (type-part-at t) type-part.Post type-part-Inv-loop type-part-μ-loop
 type-part-loop-less t c = search needs
 
 type-part-loop-again : (t : ℕ) → type-part-lts.Need-loop-again (claims t) (type-part-at t) type-part.Post type-part-Inv-loop type-part-μ-loop
 type-part-loop-again t c =
-    let ws = c .before .before .before .before .before .before .before .before .before .before .before .before .before .before .before .before .before .before .before .before .before .before .before .before .before .before .before .before .before .before .args .ws .now in
-    let w = c .before .before .before .before .before .before .before .before .before .before .before .before .before .loop .inv .1 in
-    let f = rw (to-end ws (c .before .before .before .before .before .before .before .before .before .before .before .before .before .loop .next)) at (c .before .before .before .before .before .before .before .before .before .type-part .ensures) in
-    let W = well-formed (c .before .before .before .before .before .before .before .before .before .before .before .before .before .before .before .before .before .before .before .before .before .before .before .before .before .before .before .before .before .before .args .ds .now) (c .before .before .before .before .before .before .before .before .before .before .before .before .before .before .before .before .before .before .before .before .before .before .before .before .before .before .before .before .before .before .pre .1 .0) in
-    let s = f .settled (not-false _ (c .before .before .before .before .before .if4 .left)) in
-    (omega arith, walked-more w W s (f .kept) (c .before .before .gather .ensures) (c .before .larger .ensures))
+    let at = c .before .before .before .before .before .before .before .before .before .before .before .before .before in
+    let start = at .before .before .before .before .before .before .before .before .before .before .before .before in
+    let f = rw (to-end (start .args .ws .now) (at .loop .next)) at (c .before .before .before .before .before .before .before .before .before .type-part .ensures) in
+    let k = at .loop .inv .0 in
+    let u = c .before .before .before .before .before .before .before .before .before .before .before .before .loop-test .taken in
+    (omega arith, walked-more (at .loop .inv .1) (f .settled (not-false _ (c .before .before .before .before .before .if3 .left))) (f .kept) (c .before .before .gather .ensures) (c .before .larger .ensures))
 
 type-part-add-settled : (t : ℕ) → type-part-lts.Need-add-settled (claims t) (type-part-at t) type-part.Post type-part-Inv-loop type-part-μ-loop
 type-part-add-settled t c = search needs
 
-type-part-conclude-children-requires : (t : ℕ) → type-part-lts.Need-conclude-children-requires (claims t) (type-part-at t) type-part.Post type-part-Inv-loop type-part-μ-loop
-type-part-conclude-children-requires t c κs =
-    let w = c .before .before .loop .inv .1 in
-    let r = c .before .before .before .before .before .before .before .before .before .before .before .before .before .before .before .before .before .before .before .pre .1 .1 in
+type-part-conclude-requires : (t : ℕ) → type-part-lts.Need-conclude-requires (claims t) (type-part-at t) type-part.Post type-part-Inv-loop type-part-μ-loop
+type-part-conclude-requires t c κs =
+    let at = c .before .before in
+    let start = at .before .before .before .before .before .before .before .before .before .before .before .before in
+    let w = at .loop .inv .1 in
+    let r = start .pre .1 .1 in
     let l = w .kept .long in
-    let z = c .before .before .before .before .before .before .before .before .before .before .before .before .before .before .before .if1 .left in
-    let n = c .before .before .before .before .before .before .before .before .if3 .left in
-    let k = c .before .before .loop .inv .0 in
-    let e = c .before .loop-test .left in (omega arith, free-at w .small, latest-small w (λ y. n (omega arith)), product-two _ _ (sym (c .before .before .before .before .before .before .before .before .before .before .before .before .arity-of .ensures) ∙ c .before .before .before .before .before .before .before .before .before .before .n .given .1))
+    let z = at .before .before .before .before .before .before .before .before .if1 .left in
+    let n = at .before .before .if2 .left in
+    let k = at .loop .inv .0 in
+    let e = c .before .loop-test .left in
+    let v = start .pre .1 .2 in
+    ready w (λ y. n (omega arith)) (omega arith) (omega arith)
 
 type-part-settled-requires-2 : (t : ℕ) → type-part-lts.Need-settled-requires-2 (claims t) (type-part-at t) type-part.Post type-part-Inv-loop type-part-μ-loop
 type-part-settled-requires-2 t c κs = search needs
@@ -243,13 +236,12 @@ type-part-settled-requires-2 t c κs = search needs
 type-part-same-length-3 : (t : ℕ) → type-part-lts.Need-same-length-3 (claims t) (type-part-at t) type-part.Post type-part-Inv-loop type-part-μ-loop
 type-part-same-length-3 t c = search needs
 
-type-part-returns-6 : (t : ℕ) → type-part-lts.Need-returns-6 (claims t) (type-part-at t) type-part.Post type-part-Inv-loop type-part-μ-loop
-type-part-returns-6 t c =
-    let w = c .before .before .before .before .before .before .loop .inv .1 in
-    let k = c .before .before .before .before .before .before .loop .inv .0 in
+type-part-returns-5 : (t : ℕ) → type-part-lts.Need-returns-5 (claims t) (type-part-at t) type-part.Post type-part-Inv-loop type-part-μ-loop
+type-part-returns-5 t c =
+    let at = c .before .before .before .before .before .before in
+    let k = at .loop .inv .0 in
     let e = c .before .before .before .before .before .loop-test .left in
-    found-from (c .before .before .before .before .before .before .before .before .before .before .open .ensures .1)
-    (walked-all w (sym (c .before .before .before .before .before .before .before .before .before .before .before .before .before .before .before .before .arity-of .ensures) ∙ c .before .before .before .before .before .before .before .before .before .before .before .before .before .before .n .given .1) (omega arith) (c .before .before .before .before .before .before .before .before .before .before .before .before .if3 .left) (let l = c .before .before .before .before .before .before .before .before .before .before .before .before .before .before .before .before .before .before .if2 .left in omega arith) refl (c .before .before .before .conclude-children .ensures .1) (c .settled2 .ensures))
+    walked-all (at .loop .inv .1) (rw (at .before .before .before .before .before .before .before .word-at .ensures) at (sym (at .before .before .before .before .before .before .arity-of .ensures) ∙ at .before .before .before .before .n .given .1)) (omega arith) (at .before .before .if2 .left) (ap (λ (w : ℕ). w / 256) (at .before .before .before .before .before .before .before .word-at .ensures)) (c .before .before .before .conclude .ensures) (c .settled2 .ensures)
 
 pub +type-part-spec : {M : Type 1} → statement M
 +type-part-spec = close μ-type-part λ t. type-part-lts.spec (claims t)
@@ -259,20 +251,17 @@ pub +type-part-spec : {M : Type 1} → statement M
     type-part-μ-loop
     (type-part-refused-requires t)
     (type-part-returns t)
-    (type-part-refused-requires-2 t)
-    (type-part-returns-2 t)
-    (type-part-shared-slice-read-word t)
+    (type-part-word-at-requires t)
     (type-part-arity-of-requires t)
     (type-part-enum-known-n t)
     (type-part-enum-told t)
-    (type-part-refused-requires-3 t)
-    (type-part-returns-3 t)
+    (type-part-refused-requires-2 t)
+    (type-part-returns-2 t)
     (type-part-conclude-leaf-requires t)
     (type-part-settled-requires t)
     (type-part-same-length t)
-    (type-part-returns-4 t)
+    (type-part-returns-3 t)
     (type-part-cast-head t)
-    (type-part-open-requires t)
     (type-part-none-yet-requires t)
     (type-part-loop-holds t)
     (type-part-mul-type-part t)
@@ -282,9 +271,9 @@ pub +type-part-spec : {M : Type 1} → statement M
     (type-part-sub-type-part-2 t)
     (type-part-type-part-requires t)
     (type-part-add-refused t)
-    (type-part-refused-requires-4 t)
+    (type-part-refused-requires-3 t)
     (type-part-same-length-2 t)
-    (type-part-returns-5 t)
+    (type-part-returns-4 t)
     (type-part-gather-requires t)
     (type-part-larger-requires t)
     (type-part-add-next t)
@@ -292,7 +281,7 @@ pub +type-part-spec : {M : Type 1} → statement M
     (type-part-loop-less t)
     (type-part-loop-again t)
     (type-part-add-settled t)
-    (type-part-conclude-children-requires t)
+    (type-part-conclude-requires t)
     (type-part-settled-requires-2 t)
     (type-part-same-length-3 t)
-    (type-part-returns-6 t)
+    (type-part-returns-5 t)

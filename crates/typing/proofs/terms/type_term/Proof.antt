@@ -1,13 +1,13 @@
 -- Each answer is that of the first test that fails, or what the words are found to be.
 use mathlib.Core.Path.{sym, _∙_}
 use native.Mathlib.Omega.{arith}
-use borrow.Author.Needs.{needs}
 use borrow.Author.Tests.{not-true, not-false}
 use lib.ListN.{take}
 use lib.Seq.{length-take-le}
 use Rattle.term.proofs.TermTest.{term-past}
 use Rattle.typing.proofs.Answering.{wrong-size, bad-declarations, no-term}
 use Rattle.typing.proofs.Deciding.{depth-part, within}
+use borrow.Author.Needs.{needs}
 use Rattle.typing.proofs.terms.type_term.Statement.{statement}
 use Rattle.typing.proofs.terms.type_term.Tie as tie
 
@@ -40,12 +40,15 @@ slice-aggregate-typed-on-2 c = search needs
 
 typed-on-requires : tie.Need-typed-on-requires
 typed-on-requires c κs =
-    let args = c .before .before .before .before .before .before .before .before .before .args in
+    let e = c .before .before .before in
+    let args = e .before .before .before .before .before .before .args in
     let l = length-take-le (args .n) (args .ws .now) (omega arith) in
-    (sym (c .before .before .before .before .before .are-good .ensures) ∙ not-false _ (c .before .before .before .before .if2 .left), rw l (omega arith), search needs, omega arith, λ h. omega (arith, depth-part (take (args .n) (args .ws .now))))
+    (sym (e .before .before .are-good .ensures) ∙ not-false _ (e .before .if2 .left), rw l (omega arith), search needs, search needs, omega arith, λ h. omega (arith, depth-part (take (args .n) (args .ws .now))))
 
 returns-4 : tie.Need-returns-4
-returns-4 c = c .before .typed-on .ensures ∙ within _ _ _ (c .before .before .before .before .before .before .before .before .if1 .left) (sym (c .before .before .before .before .before .before .before .are-good .ensures) ∙ not-false _ (c .before .before .before .before .before .before .if2 .left)) (omega arith)
+returns-4 c =
+    let e = c .before .before .before .before .before in
+    c .before .typed-on .ensures ∙ within _ _ _ (e .before .before .before .if1 .left) (sym (e .before .before .are-good .ensures) ∙ not-false _ (e .before .if2 .left)) (omega arith)
 
 slice-aggregate-typed-on-3 : tie.Need-slice-aggregate-typed-on-3
 slice-aggregate-typed-on-3 c = sym (length-take-le _ _ (omega arith))
@@ -55,12 +58,33 @@ slice-aggregate-typed-on-4 c = search needs
 
 typed-on-requires-2 : tie.Need-typed-on-requires-2
 typed-on-requires-2 c κs =
-    let args = c .before .before .before .before .before .before .before .before .before .args in
+    let e = c .before .before .before .before in
+    let args = e .before .before .before .before .before .before .args in
     let l = length-take-le (args .n) (args .ws .now) (omega arith) in
-    (sym (c .before .before .before .before .before .are-good .ensures) ∙ not-false _ (c .before .before .before .before .if2 .left), rw l (omega arith), search needs, omega arith, λ h. h)
+    (sym (e .before .before .are-good .ensures) ∙ not-false _ (e .before .if2 .left), rw l (omega arith), search needs, search needs, omega arith, λ h. omega (arith, depth-part (take (args .n) (args .ws .now))))
 
 returns-5 : tie.Need-returns-5
-returns-5 c = c .before .typed-on2 .ensures ∙ within _ _ _ (c .before .before .before .before .before .before .before .before .if1 .left) (sym (c .before .before .before .before .before .before .before .are-good .ensures) ∙ not-false _ (c .before .before .before .before .before .before .if2 .left)) (omega arith)
+returns-5 c =
+    let e = c .before .before .before .before .before .before in
+    c .before .typed-on2 .ensures ∙ within _ _ _ (e .before .before .before .if1 .left) (sym (e .before .before .are-good .ensures) ∙ not-false _ (e .before .if2 .left)) (omega arith)
+
+slice-aggregate-typed-on-5 : tie.Need-slice-aggregate-typed-on-5
+slice-aggregate-typed-on-5 c = sym (length-take-le _ _ (omega arith))
+
+slice-aggregate-typed-on-6 : tie.Need-slice-aggregate-typed-on-6
+slice-aggregate-typed-on-6 c = search needs
+
+typed-on-requires-3 : tie.Need-typed-on-requires-3
+typed-on-requires-3 c κs =
+    let e = c .before .before .before .before in
+    let args = e .before .before .before .before .before .before .args in
+    let l = length-take-le (args .n) (args .ws .now) (omega arith) in
+    (sym (e .before .before .are-good .ensures) ∙ not-false _ (e .before .if2 .left), rw l (omega arith), search needs, search needs, omega arith, λ h. h)
+
+returns-6 : tie.Need-returns-6
+returns-6 c =
+    let e = c .before .before .before .before .before .before in
+    c .before .typed-on3 .ensures ∙ within _ _ _ (e .before .before .before .if1 .left) (sym (e .before .before .are-good .ensures) ∙ not-false _ (e .before .if2 .left)) (omega arith)
 
 pub type-term-spec : {M : Type 1} → statement M
 type-term-spec =
@@ -80,4 +104,8 @@ type-term-spec =
     slice-aggregate-typed-on-3
     slice-aggregate-typed-on-4
     typed-on-requires-2
-    returns-5)
+    returns-5
+    slice-aggregate-typed-on-5
+    slice-aggregate-typed-on-6
+    typed-on-requires-3
+    returns-6)

@@ -1,0 +1,3 @@
+-- The laws of the table of typing rules.
+pub mod OnShapes
+pub mod Rows

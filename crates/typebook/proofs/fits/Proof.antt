@@ -1,0 +1,32 @@
+-- The tests of the definition, in its order.
+use borrow.Author.Needs.{needs}
+use borrow.Author.Tests.{eq-eqb, ne-eqb, le-leb, lt-leb}
+use Rattle.typebook.proofs.fits.Statement.{statement}
+use Rattle.typebook.proofs.fits.Tie as tie
+
+number-requires : tie.Need-number-requires
+number-requires c κs = search needs
+
+number-requires-2 : tie.Need-number-requires-2
+number-requires-2 c κs = search needs
+
+returns : tie.Need-returns
+returns c =
+    let w = c .before .before .number2 .ensures in
+    let n = c .before .before .before .number .ensures in
+    rw (← w, ← n, eq-eqb _ _ (c .before .if1 .taken), le-leb _ _ (c .if2 .taken))
+
+returns-2 : tie.Need-returns-2
+returns-2 c =
+    let w = c .before .before .number2 .ensures in
+    let n = c .before .before .before .number .ensures in
+    rw (← w, ← n, eq-eqb _ _ (c .before .if1 .taken), lt-leb _ _ (c .if2 .left))
+
+returns-3 : tie.Need-returns-3
+returns-3 c =
+    let w = c .before .number2 .ensures in
+    let n = c .before .before .number .ensures in
+    rw (← w, ← n, ne-eqb _ _ (c .if1 .left))
+
+pub fits-spec : {M : Type 1} → statement M
+fits-spec = tie.close (tie.spec number-requires number-requires-2 returns returns-2 returns-3)

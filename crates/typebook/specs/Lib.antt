@@ -1,0 +1,3 @@
+-- The typing rules as a table.
+pub mod Shapes
+pub mod Lines
