@@ -1,23 +1,22 @@
 -- Good declarations: what the test tells of each entry, and that the context they make is well-formed.
-use mathlib.Core.Path.{_≡_, refl, _∙_, ap}
+use mathlib.Core.Path.{_≡_, refl, _∙_}
 use mathlib.Core.Logic.{_≢_}
-use mathlib.Core.Bool.{Bool, true, false, cond, _&&_, not, and-eq-true-iff}
+use mathlib.Core.Bool.{Bool, true, false, cond, _&&_, not, and-true, and-false, and-eq-true-iff}
 use mathlib.Core.List.{List, [], _∷_, _++_}
-use mathlib.Core.Option as O
 use Prim.Native.Nat.{ℕ, zero, suc, _+_, _-_, _/_, _%_, _≤_, _<_}
 use native.Mathlib.Numerals.{add-one}
 use native.Mathlib.Omega.{arith}
 use borrow.Author.Tests.{eq-eqb, ne-eqb, ltb-true, leb-true, eqb-true}
 use lib.Dec.{ltb, leb, eqb}
-use lib.ListN.{length, take, drop, getD, getElem?, drop-of-length-le, length-append, length-drop}
+use lib.ListN.{length, take, drop, getD, drop-of-length-le, length-append, length-drop}
 use lib.Seq.{drop-cons, take-length, length-take-le}
-use Rattle.words.specs.Listed.{upTo, allUpTo}
+use Rattle.words.specs.Listed.{allUpTo}
 use Rattle.words.proofs.Listed.{upTo-some, length-upTo, allUpTo-at}
 use Rattle.term.specs.Heads.{Label, type-name, index-product, labelled, word, heads, reading, read}
-use Rattle.term.specs.Trees.{Tree, Forest, node, none, _▹_, count, words, words*, Formed, Formed*}
+use Rattle.term.specs.Trees.{Tree, Forest, node, none, _▹_, count, _⧺_, words, words*, Formed, Formed*}
 use Rattle.term.specs.Parts.{parse, first, part, treeIn}
 use Rattle.term.specs.Terms.{maxIndex, maxNames}
-use Rattle.term.proofs.Parsing.{accepted}
+use Rattle.term.proofs.Parsing.{accepted, parse-node}
 use Rattle.term.proofs.Scan.{part-front}
 use Rattle.types.specs.Sorts.{scalar, ket, bra, operator, index, Context, countsOf, Short}
 use Rattle.types.specs.Rules.{_⊢_∶_, type-var, base-prod, Index, Proper, IsType, WellFormed}
@@ -36,6 +35,29 @@ module _ (N : ℕ) (ws : List ℕ) (i : ℕ) where
   pub index-end : length ws ≤ i → indexWords N (drop i ws) ≡ true
   unfolding indexWords
   index-end h = rw (drop-of-length-le ws h)
+
+-- one word is an index where it is a type's name: a product wants more
+name-part : (w : ℕ) → w / 256 ≡ 1 → length (part (w ∷ []) 0) ≡ 1
+unfolding part first words read heads reading count parse _⧺_
+name-part w h = rw (parse-node w (type-name (w % 256)) none (rw h) [] none refl)
+
+product-part : length (part (512 ∷ []) 0) ≡ 0
+unfolding part first parse read heads reading
+product-part = refl
+
+one-word : (N w : ℕ) → isIndex N (w ∷ []) ≡ cond (eqb (w / 256) 1) (ltb (w % 256) N) false
+unfolding isIndex indexWords indexWord
+one-word N w = go (eqb (w / 256) 1) refl (eqb w 512) refl
+  where
+    go : (b : Bool) → eqb (w / 256) 1 ≡ b → (c : Bool) → eqb w 512 ≡ c → isIndex N (w ∷ []) ≡ cond b (ltb (w % 256) N) false
+    go true e c f = rw (name-part w (eqb-true _ _ e), e, and-true (ltb (w % 256) N))
+    go false e true f = let h : w ≡ 512 = eqb-true _ _ f in rw (h, product-part)
+    go false e false f = rw (e, f) (and-false (eqb (length (part (w ∷ []) 0)) 1))
+
+pub one-index : (N : ℕ) (ws : List ℕ) → length ws ≡ 1 → isIndex N ws ≡ cond (eqb (getD ws 0 0 / 256) 1) (ltb (getD ws 0 0 % 256) N) false
+one-index N [] e = absurd (omega arith)
+one-index N (w ∷ []) e = one-word N w
+one-index N (v ∷ w ∷ ws) e = absurd (omega arith)
 
 -- ---- the n words from an offset on, as the code takes them
 abbrev pub taken : List ℕ → ℕ → ℕ → List ℕ

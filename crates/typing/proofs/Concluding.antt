@@ -136,6 +136,14 @@ rows rule top g = sideSize (product rule) (leftAt rule top g .len) (g .latest .l
 abbrev columns : ℕ → ℕ → G.Gathered → ℕ
 columns rule top g = sideSize (product rule) (rightAt rule top g .len) (g .latest .right)
 
+-- a plan by its parts, as the code finds them
+pub plan-is : (h n : ℕ) (m : Bool) (top : ℕ) (g : G.Gathered) {rule rows columns : ℕ} {left right : R.Run} {fit well : Bool} {class : Class} → rule ≡ ruleAt h → left ≡ leftAt rule top g → right ≡ rightAt rule top g
+    → rows ≡ sideSize (product rule) (left .len) (g .latest .left) → columns ≡ sideSize (product rule) (right .len) (g .latest .right) → fit ≡ fitted h n (g .first .class) (g .latest .class)
+    → well ≡ (fit && (m && shortBoth (product rule) rows columns)) → class ≡ classBy (rule / 256 % 16) h (g .first .class) (g .latest .class)
+    → _≡_ {A = P.Plan} (record { typed = well; sorted = record { class = class; left = rows; right = columns }; product = product rule; left = left; right = right }) (planOf h n m top g)
+unfolding planOf
+plan-is h n m top g a l r i j f w k = rw (w, k, f, j, i, r, l, a)
+
 few-by : (p : Bool) (k l m n : ℕ) → k ≤ 63 → l ≤ 63 → shortBoth p (sideSize p k m) (sideSize p l n) ≡ true → (sideSize p k m ≤ 63) × (sideSize p l n ≤ 63)
 unfolding shortBoth sideSize
 few-by true k l m n h i e = let s = and-eq-true-iff _ _ .0 e in (leb-true _ _ (s .0), leb-true _ _ (s .1))

@@ -6,12 +6,12 @@ use mathlib.Core.List.{List}
 use Prim.Native.Nat.{ℕ, _≤_, _<_}
 use native.Mathlib.Omega.{arith}
 use borrow.Author.Tests.{eq-eqb, not-true, not-false}
-use lib.ListN.{length, take, drop, length-append}
+use lib.ListN.{length, take}
 use lib.Seq.{length-take-le, take-length}
 use Rattle.term.specs.declared.terms.Names.{Names}
-use Rattle.term.specs.Parts.{parse, first, part, treeIn}
-use Rattle.term.specs.Terms.{maxWords, maxDepth, firstDepth, partDepth, allDeclared, termWords, isTerm}
-use Rattle.term.specs.Trees.{Tree, Forest, node, none, _▹_, words, words*, depth, depth*}
+use Rattle.term.specs.Parts.{parse, treeIn}
+use Rattle.term.specs.Terms.{maxWords, maxDepth, partDepth, allDeclared, termWords, isTerm}
+use Rattle.term.specs.Trees.{depth}
 use Rattle.term.proofs.Scan.{part-length}
 use Rattle.term.proofs.TermTest.{term-in, term-end, term-names}
 use Rattle.declarations.specs.Declarations.{contextIn, namesIn, goodDeclarations}
@@ -24,26 +24,6 @@ use Rattle.typebook.specs.Shapes.{shapeOf}
 use Rattle.typing.specs.Code.Shapes.{shapeAt}
 use Rattle.typing.specs.Code.Verdicts.{Found, typingIn}
 use Rattle.typing.proofs.Answering.{here, here-part, here-shallow}
-
--- ---- a part is no deeper than its words are many
-mutual
-  unfolding depth words
-
-  depth-words : (t : Tree) → depth t ≤ length (words t)
-  depth-words (node l cs) = omega (arith, depth-words* cs)
-
-  depth-words* : (f : Forest) → depth* f ≤ length (words* f)
-  depth-words* none = omega arith
-  depth-words* (t ▹ f) = omega (arith, depth-words t, depth-words* f, length-append (words t) (words* f))
-
-depth-first : (f : Forest) → firstDepth f ≤ length (first f)
-unfolding firstDepth first
-depth-first none = omega arith
-depth-first (t ▹ f) = depth-words t
-
-pub depth-part : (ws : List ℕ) → partDepth ws 0 ≤ length ws
-unfolding partDepth part
-depth-part ws = omega (arith, depth-first (parse (drop 0 ws)), part-length ws 0)
 
 -- the answer for the first n words of a slice is that for those words
 pub within : (ds ws : List ℕ) (n : ℕ) → length ws ≡ maxWords → goodDeclarations ds ≡ true → n ≤ length ws → typingIn ds (take n ws) ≡ typingOf ds ws n
@@ -66,7 +46,7 @@ module _ (ds ws : List ℕ) where
   all-words : isTerm (namesIn ds) ws (length ws) ≡ termWords (namesIn ds) ws
   all-words = term-in (namesIn ds) ws (length ws) (omega arith) ∙ rw take-length
 
-module _ (ds : List ℕ) {ws : List ℕ} {v : Answer.Verdict} {st st′ : List ℕ} {budget : ℕ} (f : Found (contextIn ds) ws budget 0 v st st′) where
+module _ (ds : List ℕ) {ws : List ℕ} {v : Answer.Verdict} {st st′ : List ℕ} (f : Found (contextIn ds) ws maxDepth 0 v st st′) where
   -- ---- a typed part
   module _ (yes : v .typed ≡ true) (short : length ws ≤ maxWords) where
     some : 0 < length ws
@@ -75,9 +55,9 @@ module _ (ds : List ℕ) {ws : List ℕ} {v : Answer.Verdict} {st st′ : List �
     pub part-only : {r : A.Typing} → v .size ≢ length ws → r ≡ refuse 8 0 → r ≡ typingIn ds ws
     part-only n t = t ∙ sym (not-term ds ws (term-end (namesIn ds) ws some short (λ e. n (f .settled yes .size ∙ e))))
 
-    module _ (few : budget ≤ maxDepth) (all : v .size ≡ length ws) {N : Names} {b : Bool} (names : N ≡ namesIn ds) (test : b ≡ allDeclared N ws) where
+    module _ (all : v .size ≡ length ws) {N : Names} {b : Bool} (names : N ≡ namesIn ds) (test : b ≡ allDeclared N ws) where
       all-named : termWords (namesIn ds) ws ≡ b
-      all-named = let s = f .settled yes in term-names (namesIn ds) ws some short (sym (s .size) ∙ all) (omega (arith, s .shallow)) ∙ rw (← names) (sym test)
+      all-named = let s = f .settled yes in term-names (namesIn ds) ws some short (sym (s .size) ∙ all) (s .shallow) ∙ rw (← names) (sym test)
 
       pub undeclared : {r : A.Typing} → not b ≡ true → r ≡ refuse 8 0 → r ≡ typingIn ds ws
       undeclared n t = t ∙ sym (not-term ds ws (all-named ∙ not-true b n))
@@ -92,10 +72,10 @@ module _ (ds : List ℕ) {ws : List ℕ} {v : Answer.Verdict} {st st′ : List �
     pub no-term : {r : A.Typing} → not b ≡ true → r ≡ refuse 8 0 → r ≡ typingIn ds ws
     no-term n t = t ∙ sym (not-term ds ws (sym (all-words ds ws) ∙ all-tested ds ws names test ∙ not-true b n))
 
-    pub untyped-term : {r : A.Typing} → (partDepth ws 0 ≤ maxDepth → partDepth ws 0 ≤ budget) → not b ≡ false → r ≡ refuse 10 (v .at) → r ≡ typingIn ds ws
+    pub untyped-term : {r : A.Typing} → not b ≡ false → r ≡ refuse 10 (v .at) → r ≡ typingIn ds ws
     unfolding answerOf
-    untyped-term deep n t =
+    untyped-term n t =
         let e = all-tested ds ws names test ∙ not-false b n in
         let h = here (namesIn ds) ws (length ws) e in
-        let u = f .unsettled no′ (rw take-length at (here-part h)) (deep (rw take-length at (here-shallow h))) in
+        let u = f .unsettled no′ (rw take-length at (here-part h)) (rw take-length at (here-shallow h)) in
         t ∙ sym (the-term ds ws (sym (all-words ds ws) ∙ e) ∙ rw u)

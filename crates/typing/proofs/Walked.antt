@@ -3,7 +3,7 @@ use mathlib.Core.Path.{_≡_, refl, sym, _∙_, ap}
 use mathlib.Core.Logic.{_≢_}
 use mathlib.Core.Bool.{Bool, _&&_, and-true, and-assoc}
 use mathlib.Core.List.{List, [], _∷_, _++_}
-use Prim.Native.Nat.{ℕ, _+_, _-_, _/_, _≤_, _<_, max}
+use Prim.Native.Nat.{ℕ, _+_, _-_, _*_, _/_, _≤_, _<_, max}
 use native.Mathlib.Omega.{arith}
 use lib.ListN.{length, drop, getD, length-append, length-drop}
 use Rattle.term.specs.Heads.{Label, labelled, read, arityOf}
@@ -87,6 +87,8 @@ pub record Walked (Γ : Context) (ws : List ℕ) (budget top head next k deepest
   pub passed : Passed Γ ws next k deepest list
   pub long : length list ≡ k
   pub inside : next ≤ length ws
+  pub near : g .free ≤ top + 63 * next
+  pub two : k ≢ 0 → 2 ≤ next
   pub shallow : deepest < budget
   pub kept : Above top st₀ st
   pub gathers : Gathers (isSum head) top list g st
@@ -95,7 +97,7 @@ pub walked-none : {Γ : Context} {ws : List ℕ} {budget top head n : ℕ} {g : 
     → g ≡ record { first = plain; latest = plain; at = top; free = top; alike = isSum head } → Walked Γ ws budget top head 1 0 0 g st st
 walked-none {Γ} {ws} {top = top} {head = head} {st = st} wants h e =
     let s = some-word ws wants in
-    rw e (record { list = []; passed = passed-none Γ ws; long = refl; inside = omega arith; shallow = h; kept = above-refl top st; gathers = begun {g = record { first = plain; latest = plain; at = top; free = top; alike = isSum head }} refl refl (omega arith, omega arith) })
+    rw e (record { list = []; passed = passed-none Γ ws; long = refl; inside = omega arith; near = omega arith; two = λ z. absurd (z refl); shallow = h; kept = above-refl top st; gathers = begun {g = record { first = plain; latest = plain; at = top; free = top; alike = isSum head }} refl refl (omega arith, omega arith) })
 
 module _ {Γ : Context} {ws : List ℕ} {budget top head next k deepest : ℕ} {g : G.Gathered} {st₀ st : List ℕ} (w : Walked Γ ws budget top head next k deepest g st₀ st) where
   pub free-at : Free top g
@@ -112,14 +114,18 @@ module _ {Γ : Context} {ws : List ℕ} {budget top head next k deepest : ℕ} {
         let size : child .size ≡ length (words (c .tree)) = s .size ∙ part-is c in
         let deep : child .depth ≡ depth (c .tree) = s .depth ∙ depth-is c in
         let is : typeOf Γ 0 (c .tree) ≡ typed (s .sort) = sym (ap (typeOf Γ 0) (tree-is c)) ∙ s .is in
+        let more = gathers-more (s .sort) (w .gathers) (w .long) a (s .small) (s .sorted) t in
+        let at = w .passed .place in
         record {
           list = w .list ++ (s .sort ∷ []);
           passed = rw (size, e, deep) (passed-more (w .passed) c (s .sort) is);
           long = let l = w .long in omega (arith, length-append (w .list) (s .sort ∷ []));
           inside = child-inside;
+          near = omega (arith, gathers-free more .upTo, at, s .size, s .whole);
+          two = λ z. omega (arith, at, s .size, s .whole);
           shallow = let z = s .shallow in let y = s .depth in let x = w .shallow in omega arith;
           kept = above-trans (w .kept) (above-lower (free-at .from) a);
-          gathers = gathers-more (s .sort) (w .gathers) (w .long) a (s .small) (s .sorted) t;
+          gathers = more;
         }
 
   -- all of them: what the rule asks, and what it tells

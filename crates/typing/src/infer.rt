@@ -17,7 +17,7 @@ ghost use Prim.Native.Nat.{_+_, _≤_};
 ghost use lib.ListN.{length};
 ghost use Rattle.declarations.specs.Declarations.{contextIn, goodDeclarations};
 ghost use Rattle.typing.specs.Code.Shapes.{Room, Answers};
-ghost use Rattle.typing.specs.Code.Verdicts.{refusal, leafOf, room, Found};
+ghost use Rattle.typing.specs.Code.Verdicts.{refusal, leafOf, need, Found};
 
 // What typing finds of a part: its number of words, its depth and its sort, or the offset of the first untyped part.
 pub struct Verdict {
@@ -87,7 +87,7 @@ fn conclude_leaf(ds: &[u16], word: u16, stack: &mut [u16], top: usize) -> Outcom
 // The sort of the whole part with which `ws` begins, with its words on the stack from `top` on; or the offset of its first untyped part. It calls itself no deeper than the
 // budget.
 pub fn type_part(ds: &[u16], ws: &[u16], stack: &mut [u16], top: usize, budget: usize) -> Verdict
-    requires { ⌜ (goodDeclarations (now ds) ≡ true) × (top + room budget ≤ length (now stack)) × (length (now stack) ≤ 8190) × (budget ≤ 64) ⌝ }
+    requires { ⌜ (goodDeclarations (now ds) ≡ true) × (top + need (length (now ws)) budget ≤ length (now stack)) × (length (now stack) ≤ 8190) × (budget ≤ 64) ⌝ }
     ensures { λ r. ⌜ Found (contextIn (now (ds .entry))) (now (ws .entry)) budget top r (now (stack .entry)) (now (stack .exit)) ⌝ }
 {
     if budget == 0 {

@@ -11,14 +11,13 @@ ghost use mathlib.Core.Path.{_≡_};
 ghost use mathlib.Core.Bool.{true};
 ghost use Prim.Native.Nat.{_≤_};
 ghost use lib.ListN.{length, take, drop};
-ghost use Rattle.term.specs.Terms.{partDepth};
 ghost use Rattle.types.specs.Sorts.{Sort};
 ghost use Rattle.types.specs.TypeOf.{typed};
 ghost use Rattle.declarations.specs.Declarations.{goodDeclarations};
 ghost use Rattle.typing.specs.Answers.{sizesOf, refuse, typing, answerOf, typingOf};
 ghost use Rattle.typebook.specs.Shapes.{shapeOf};
 ghost use Rattle.typing.specs.Code.Shapes.{shapeAt, Small};
-ghost use Rattle.typing.specs.Code.Verdicts.{room, typingIn};
+ghost use Rattle.typing.specs.Code.Verdicts.{need, typingIn};
 
 // The kind of a type, with the lengths of its indices.
 pub enum Kind {
@@ -155,12 +154,12 @@ fn answered(size: usize, depth: usize, stack: &[u16], s: Sorted) -> Typing
 }
 
 // What all of some words are found to be, in one walk where they are typed. The declarations were tested.
-fn typed_on(ds: &[u16], ws: &[u16], stack: &mut [u16], budget: usize) -> Typing
-    requires { ⌜ (goodDeclarations (now ds) ≡ true) × (length (now ws) ≤ 4096) × (room budget ≤ length (now stack)) × (length (now stack) ≤ 8190) × (budget ≤ 64) × (partDepth (now ws) 0 ≤ 64 → partDepth (now ws) 0 ≤ budget) ⌝ }
+fn typed_on(ds: &[u16], ws: &[u16], stack: &mut [u16]) -> Typing
+    requires { ⌜ (goodDeclarations (now ds) ≡ true) × (length (now ws) ≤ 4096) × (need (length (now ws)) 64 ≤ length (now stack)) × (length (now stack) ≤ 8190) ⌝ }
     ensures { λ r. ⌜ r ≡ typingIn (now (ds .entry)) (now (ws .entry)) ⌝ }
 {
     let n = ws.len();
-    let found = type_part(ds, ws, stack, 0, budget);
+    let found = type_part(ds, ws, stack, 0, 64);
     if found.typed {
         if found.size != n {
             return refused_with(8, 0);
@@ -190,15 +189,19 @@ pub fn type_term(ds: &[u16], ws: &[u16], n: usize) -> Typing
     if 4096 < n {
         return refused_with(8, 0);
     }
-    // a term of few words is not deep, and to clear a large stack would take longer than to type it
-    if n <= 7 {
-        let mut stack = [0u16; 1008];
-        return typed_on(ds, &ws[..n], &mut stack, 7);
+    // to clear a large stack would take longer than to type a term of few words, which needs but a small one
+    if n <= 6 {
+        let mut stack = [0u16; 504];
+        return typed_on(ds, &ws[..n], &mut stack);
     }
-    if n <= 16 {
-        let mut stack = [0u16; 2142];
-        return typed_on(ds, &ws[..n], &mut stack, 16);
+    if n <= 14 {
+        let mut stack = [0u16; 1008];
+        return typed_on(ds, &ws[..n], &mut stack);
+    }
+    if n <= 30 {
+        let mut stack = [0u16; 2016];
+        return typed_on(ds, &ws[..n], &mut stack);
     }
     let mut stack = [0u16; 8190];
-    typed_on(ds, &ws[..n], &mut stack, 64)
+    typed_on(ds, &ws[..n], &mut stack)
 }

@@ -1,10 +1,12 @@
--- Each answer is the first condition of the definition that fails, or the last one.
+-- Each answer is the first condition of the definition that fails, or the last one; one word is an index by itself.
+use mathlib.Core.Path.{sym, _∙_}
 use native.Mathlib.Omega.{arith}
-use borrow.Author.Needs.{needs}
 use borrow.Author.Tests.{lt-ltb, le-leb, lt-leb, eq-eqb, ne-eqb}
 use lib.ListN.{length}
 use Rattle.term.specs.Parts.{part}
 use Rattle.declarations.specs.Declarations.{isIndex}
+use Rattle.declarations.proofs.Entries.{one-index}
+use borrow.Author.Needs.{needs}
 use Rattle.declarations.proofs.is_index.Statement.{statement}
 use Rattle.declarations.proofs.is_index.Tie as tie
 
@@ -12,31 +14,49 @@ returns : tie.Need-returns
 unfolding isIndex
 returns c = rw (c .if1 .taken)
 
-returns-2 : tie.Need-returns-2
-unfolding isIndex
-returns-2 c =
-    let ws = c .before .before .before .args .ws .now in
-    rw (lt-ltb 0 (length ws) (omega arith), lt-leb _ _ (c .if2 .taken))
+shared-slice-read-is-type-name : tie.Need-shared-slice-read-is-type-name
+shared-slice-read-is-type-name c = search needs
 
-part-end-requires : tie.Need-part-end-requires
-part-end-requires c κs = search needs
+is-type-name-requires : tie.Need-is-type-name-requires
+is-type-name-requires c κs = search needs
+
+returns-2 : tie.Need-returns-2
+returns-2 c = c .is-type-name .ensures ∙ sym (one-index _ _ (c .before .before .if2 .taken))
 
 returns-3 : tie.Need-returns-3
 unfolding isIndex
 returns-3 c =
-    let ws = c .before .before .before .before .before .args .ws .now in
-    rw (lt-ltb 0 (length ws) (omega arith), le-leb _ _ (c .before .before .if2 .left), ne-eqb (length (part ws 0)) (length ws) λ e. c .if3 .taken (omega arith))
+    let ws = c .before .before .before .before .args .ws .now in
+    rw (lt-ltb 0 (length ws) (omega arith), lt-leb _ _ (c .if3 .taken))
 
-are-index-words-requires : tie.Need-are-index-words-requires
-are-index-words-requires c κs = search needs
+part-end-requires : tie.Need-part-end-requires
+part-end-requires c κs = search needs
 
 returns-4 : tie.Need-returns-4
 unfolding isIndex
 returns-4 c =
     let ws = c .before .before .before .before .before .before .args .ws .now in
-    rw (lt-ltb 0 (length ws) (omega arith), le-leb _ _ (c .before .before .before .if2 .left), eq-eqb (length (part ws 0)) (length ws) (omega arith)) (c .are-index-words .ensures)
+    rw (lt-ltb 0 (length ws) (omega arith), le-leb _ _ (c .before .before .if3 .left), ne-eqb (length (part ws 0)) (length ws) λ e. c .if4 .taken (omega arith))
+
+are-index-words-requires : tie.Need-are-index-words-requires
+are-index-words-requires c κs = search needs
+
+returns-5 : tie.Need-returns-5
+unfolding isIndex
+returns-5 c =
+    let ws = c .before .before .before .before .before .before .before .args .ws .now in
+    rw (lt-ltb 0 (length ws) (omega arith), le-leb _ _ (c .before .before .before .if3 .left), eq-eqb (length (part ws 0)) (length ws) (omega arith)) (c .are-index-words .ensures)
 
 pub is-index-spec : {M : Type 1} → statement M
 is-index-spec =
     tie.close
-    (tie.spec returns returns-2 part-end-requires returns-3 are-index-words-requires returns-4)
+    (tie.spec
+    returns
+    shared-slice-read-is-type-name
+    is-type-name-requires
+    returns-2
+    returns-3
+    part-end-requires
+    returns-4
+    are-index-words-requires
+    returns-5)

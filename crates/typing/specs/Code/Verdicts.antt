@@ -3,7 +3,7 @@ use mathlib.Core.Path.{_≡_}
 use mathlib.Core.Bool.{Bool, true, false, cond}
 use mathlib.Core.List.{List, [], _∷_}
 use mathlib.Core.Option.{Option, some}
-use Prim.Native.Nat.{ℕ, _+_, _*_, _/_, _%_, _≤_, _<_}
+use Prim.Native.Nat.{ℕ, _+_, _*_, _/_, _%_, _≤_, _<_, min}
 use lib.Dec.{eqb, ltb}
 use lib.ListN.{length, getD}
 use Rattle.term.specs.declared.heads.Class.the-variants.{Index, Basis, Scalar, Ket, Bra, Operator}
@@ -62,9 +62,10 @@ entryOf ds w =
     cond (eqb (w / 256) 3) (cond (ltb (w % 256) (getD ds 1 0)) (basisEntry ds (w % 256)) (bareEntry false))
     (cond (eqb (w / 256) 26) (cond (ltb (w % 256) (getD ds 2 0)) (variableEntry ds (w % 256)) (bareEntry false)) (bareEntry true))
 
--- the words that the typing of a part no deeper than so much may take
-abbrev pub room : ℕ → ℕ
-room budget = 126 * budget + 126
+-- the words of the stack that the typing of a part of at most n words, no deeper than the budget, may take: a child's sort stays where another follows it, so at most one a level,
+-- and one for two words of the term
+abbrev pub need : ℕ → ℕ → ℕ
+need n budget = min (63 * n + 126) (126 * budget + 126)
 
 -- a typed part: it is whole and no deeper than the budget, and its words stand on the stack
 pub record Settled (Γ : Context) (ws : List ℕ) (budget top : ℕ) (r : Answer.Verdict) (st : List ℕ) : Type 0 where

@@ -1,13 +1,13 @@
 -- The measure of the recursion is the budget. The loop's invariant: the children passed so far have sorts, whose numbers are gathered, and the words of the first and the latest
 -- stand on the stack (`Walked`); its measure is how many are still to come.
-use mathlib.Core.Path.{sym, _∙_, ap}
+use mathlib.Core.Path.{_≡_, sym, _∙_, ap}
 use Prim.Native.Nat.{ℕ, _-_, _/_, _≤_, _<_}
 use native.Mathlib.Omega.{arith}
 use borrow.Author.Needs.{needs}
 use borrow.Author.Tests.{not-true, not-false}
 use borrow.Fn.Kinds.{In}
 use borrow.Fn.PlainCycle.{Measures, is, falls, and}
-use lib.ListN.{length-drop}
+use lib.ListN.{length, take, drop, length-drop}
 use Rattle.words.proofs.Runs.{to-end}
 use Rattle.term.proofs.Scan.{children-few}
 use Rattle.declarations.specs.Declarations.{contextIn}
@@ -150,7 +150,10 @@ type-part-type-part-requires t c κs =
     let m = start .pre .1 .3 in
     let z = at .before .before .before .before .before .before .before .before .if1 .left in
     let u = start .pre .0 in
-    (omega arith, (start .pre .1 .0, omega arith, omega arith, omega arith))
+    let near = w .near in
+    let i = w .inside in
+    let d : length (start .args .ws .now) - at .loop .next ≡ length (take (length (start .args .ws .now) - at .loop .next) (drop (at .loop .next) (start .args .ws .now))) = sym (ap length (to-end (start .args .ws .now) (at .loop .next)) ∙ length-drop (at .loop .next) (start .args .ws .now)) in
+    (omega arith, (start .pre .1 .0, rw (← d) (omega arith), omega arith, omega arith))
 
 type-part-add-refused : (t : ℕ) → type-part-lts.Need-add-refused (claims t) (type-part-at t) type-part.Post type-part-Inv-loop type-part-μ-loop
 type-part-add-refused t c =
@@ -184,6 +187,8 @@ type-part-gather-requires t c κs =
     let l = w .kept .long in
     let m = f .kept .long in
     let z = at .before .before .before .before .before .before .before .before .if1 .left in
+    let near = w .near in
+    let i = w .inside in
     (omega arith, omega arith, free-at w .small, f .settled (not-false _ (c .before .before .if3 .left)) .small)
 
 type-part-larger-requires : (t : ℕ) → type-part-lts.Need-larger-requires (claims t) (type-part-at t) type-part.Post type-part-Inv-loop type-part-μ-loop
@@ -228,6 +233,8 @@ type-part-conclude-requires t c κs =
     let k = at .loop .inv .0 in
     let e = c .before .loop-test .left in
     let v = start .pre .1 .2 in
+    let two = w .two (λ y. n (omega arith)) in
+    let i = w .inside in
     ready w (λ y. n (omega arith)) (omega arith) (omega arith)
 
 type-part-settled-requires-2 : (t : ℕ) → type-part-lts.Need-settled-requires-2 (claims t) (type-part-at t) type-part.Post type-part-Inv-loop type-part-μ-loop

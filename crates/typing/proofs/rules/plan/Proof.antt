@@ -1,8 +1,7 @@
 -- Each field is what the definition has there.
 use Prim.Native.Nat.{_/_, _%_}
 use native.Mathlib.Omega.{arith}
-use Rattle.typing.specs.Code.Conclude.{planOf}
-use Rattle.typing.proofs.Concluding.{place-few}
+use Rattle.typing.proofs.Concluding.{place-few, plan-is}
 use borrow.Author.Needs.{needs}
 use Rattle.typing.proofs.rules.plan.Statement.{statement}
 use Rattle.typing.proofs.rules.plan.Tie as tie
@@ -32,8 +31,7 @@ class-by-requires : tie.Need-class-by-requires
 class-by-requires c κs = search needs
 
 returns : tie.Need-returns
-unfolding planOf
-returns c = rw (c .class-by .ensures, c .before .all-well .ensures, c .before .before .are-fit .ensures, c .before .before .before .side-size2 .ensures, c .before .before .before .before .side-size .ensures, c .before .before .before .before .before .piece2 .ensures, c .before .before .before .before .before .before .piece .ensures, c .before .before .before .before .before .before .before .before .before .rule-of .ensures)
+returns c = plan-is _ _ _ _ _ (c .before .before .before .before .before .before .before .before .before .rule-of .ensures) (c .before .before .before .before .before .before .piece .ensures) (c .before .before .before .before .before .piece2 .ensures) (c .before .before .before .before .side-size .ensures) (c .before .before .before .side-size2 .ensures) (c .before .before .are-fit .ensures) (c .before .all-well .ensures) (c .class-by .ensures)
 
 pub plan-spec : {M : Type 1} → statement M
 plan-spec =

@@ -2,11 +2,10 @@
 use mathlib.Core.Path.{sym, _∙_}
 use native.Mathlib.Omega.{arith}
 use borrow.Author.Tests.{not-true, not-false}
-use lib.ListN.{take}
 use lib.Seq.{length-take-le}
 use Rattle.term.proofs.TermTest.{term-past}
 use Rattle.typing.proofs.Answering.{wrong-size, bad-declarations, no-term}
-use Rattle.typing.proofs.Deciding.{depth-part, within}
+use Rattle.typing.proofs.Deciding.{within}
 use borrow.Author.Needs.{needs}
 use Rattle.typing.proofs.terms.type_term.Statement.{statement}
 use Rattle.typing.proofs.terms.type_term.Tie as tie
@@ -42,8 +41,7 @@ typed-on-requires : tie.Need-typed-on-requires
 typed-on-requires c κs =
     let e = c .before .before .before in
     let args = e .before .before .before .before .before .before .args in
-    let l = length-take-le (args .n) (args .ws .now) (omega arith) in
-    (sym (e .before .before .are-good .ensures) ∙ not-false _ (e .before .if2 .left), rw l (omega arith), search needs, search needs, omega arith, λ h. omega (arith, depth-part (take (args .n) (args .ws .now))))
+    rw (length-take-le (args .n) (args .ws .now) (omega arith)) (sym (e .before .before .are-good .ensures) ∙ not-false _ (e .before .if2 .left), omega arith, search needs, search needs)
 
 returns-4 : tie.Need-returns-4
 returns-4 c =
@@ -60,8 +58,7 @@ typed-on-requires-2 : tie.Need-typed-on-requires-2
 typed-on-requires-2 c κs =
     let e = c .before .before .before .before in
     let args = e .before .before .before .before .before .before .args in
-    let l = length-take-le (args .n) (args .ws .now) (omega arith) in
-    (sym (e .before .before .are-good .ensures) ∙ not-false _ (e .before .if2 .left), rw l (omega arith), search needs, search needs, omega arith, λ h. omega (arith, depth-part (take (args .n) (args .ws .now))))
+    rw (length-take-le (args .n) (args .ws .now) (omega arith)) (sym (e .before .before .are-good .ensures) ∙ not-false _ (e .before .if2 .left), omega arith, search needs, search needs)
 
 returns-5 : tie.Need-returns-5
 returns-5 c =
@@ -76,15 +73,31 @@ slice-aggregate-typed-on-6 c = search needs
 
 typed-on-requires-3 : tie.Need-typed-on-requires-3
 typed-on-requires-3 c κs =
-    let e = c .before .before .before .before in
+    let e = c .before .before .before .before .before in
     let args = e .before .before .before .before .before .before .args in
-    let l = length-take-le (args .n) (args .ws .now) (omega arith) in
-    (sym (e .before .before .are-good .ensures) ∙ not-false _ (e .before .if2 .left), rw l (omega arith), search needs, search needs, omega arith, λ h. h)
+    rw (length-take-le (args .n) (args .ws .now) (omega arith)) (sym (e .before .before .are-good .ensures) ∙ not-false _ (e .before .if2 .left), omega arith, search needs, search needs)
 
 returns-6 : tie.Need-returns-6
 returns-6 c =
-    let e = c .before .before .before .before .before .before in
+    let e = c .before .before .before .before .before .before .before in
     c .before .typed-on3 .ensures ∙ within _ _ _ (e .before .before .before .if1 .left) (sym (e .before .before .are-good .ensures) ∙ not-false _ (e .before .if2 .left)) (omega arith)
+
+slice-aggregate-typed-on-7 : tie.Need-slice-aggregate-typed-on-7
+slice-aggregate-typed-on-7 c = sym (length-take-le _ _ (omega arith))
+
+slice-aggregate-typed-on-8 : tie.Need-slice-aggregate-typed-on-8
+slice-aggregate-typed-on-8 c = search needs
+
+typed-on-requires-4 : tie.Need-typed-on-requires-4
+typed-on-requires-4 c κs =
+    let e = c .before .before .before .before .before in
+    let args = e .before .before .before .before .before .before .args in
+    rw (length-take-le (args .n) (args .ws .now) (omega arith)) (sym (e .before .before .are-good .ensures) ∙ not-false _ (e .before .if2 .left), omega arith, search needs, search needs)
+
+returns-7 : tie.Need-returns-7
+returns-7 c =
+    let e = c .before .before .before .before .before .before .before in
+    c .before .typed-on4 .ensures ∙ within _ _ _ (e .before .before .before .if1 .left) (sym (e .before .before .are-good .ensures) ∙ not-false _ (e .before .if2 .left)) (omega arith)
 
 pub type-term-spec : {M : Type 1} → statement M
 type-term-spec =
@@ -108,4 +121,8 @@ type-term-spec =
     slice-aggregate-typed-on-5
     slice-aggregate-typed-on-6
     typed-on-requires-3
-    returns-6)
+    returns-6
+    slice-aggregate-typed-on-7
+    slice-aggregate-typed-on-8
+    typed-on-requires-4
+    returns-7)

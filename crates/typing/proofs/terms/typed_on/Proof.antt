@@ -30,7 +30,7 @@ same-length-2 : tie.Need-same-length-2
 same-length-2 c = search needs
 
 returns-2 : tie.Need-returns-2
-returns-2 c = undeclared _ (c .before .before .before .before .before .before .before .before .before .type-part .ensures) (c .before .before .before .before .before .before .if1 .taken) (c .before .before .before .before .before .before .before .before .before .before .before .before .before .before .pre .1) (c .before .before .before .before .before .before .before .before .before .before .before .before .before .before .pre .4) (c .before .before .before .before .if2 .left) (c .before .before .before .names-of .ensures) (c .before .before .all-declared .ensures) (c .before .if3 .taken) (c .refused-with2 .ensures)
+returns-2 c = undeclared _ (c .before .before .before .before .before .before .before .before .before .type-part .ensures) (c .before .before .before .before .before .before .if1 .taken) (c .before .before .before .before .before .before .before .before .before .before .before .before .before .before .pre .1) (c .before .before .before .before .if2 .left) (c .before .before .before .names-of .ensures) (c .before .before .all-declared .ensures) (c .before .if3 .taken) (c .refused-with2 .ensures)
 
 answered-requires : tie.Need-answered-requires
 answered-requires c κs = (c .before .before .before .before .before .before .before .before .before .before .type-part .ensures .settled (c .before .before .before .before .before .before .before .if1 .taken) .small, omega (arith, c .before .before .before .before .before .before .before .before .before .before .type-part .ensures .kept .long, c .before .before .before .before .before .before .before .before .before .before .before .before .before .before .before .pre .2))
@@ -39,7 +39,7 @@ same-length-3 : tie.Need-same-length-3
 same-length-3 c = search needs
 
 returns-3 : tie.Need-returns-3
-returns-3 c = typed-term _ (c .before .before .before .before .before .before .before .before .before .before .before .type-part .ensures) (c .before .before .before .before .before .before .before .before .if1 .taken) (c .before .before .before .before .before .before .before .before .before .before .before .before .before .before .before .before .pre .1) (c .before .before .before .before .before .before .before .before .before .before .before .before .before .before .before .before .pre .4) (c .before .before .before .before .before .before .if2 .left) (c .before .before .before .before .before .names-of .ensures) (c .before .before .before .before .all-declared .ensures) (c .before .before .before .if3 .left) (c .answered .ensures)
+returns-3 c = typed-term _ (c .before .before .before .before .before .before .before .before .before .before .before .type-part .ensures) (c .before .before .before .before .before .before .before .before .if1 .taken) (c .before .before .before .before .before .before .before .before .before .before .before .before .before .before .before .before .pre .1) (c .before .before .before .before .before .before .if2 .left) (c .before .before .before .before .before .names-of .ensures) (c .before .before .before .before .all-declared .ensures) (c .before .before .before .if3 .left) (c .answered .ensures)
 
 names-of-requires-2 : tie.Need-names-of-requires-2
 names-of-requires-2 c κs = search needs
@@ -63,7 +63,7 @@ same-length-5 : tie.Need-same-length-5
 same-length-5 c = search needs
 
 returns-5 : tie.Need-returns-5
-returns-5 c = untyped-term _ (c .before .before .before .before .before .before .before .type-part .ensures) (c .before .before .before .before .if1 .left) (c .before .before .before .names-of2 .ensures) (c .before .before .is-term .ensures) (c .before .before .before .before .before .before .before .before .before .before .before .before .pre .5) (c .before .if4 .left) (c .refused-with4 .ensures)
+returns-5 c = untyped-term _ (c .before .before .before .before .before .before .before .type-part .ensures) (c .before .before .before .before .if1 .left) (c .before .before .before .names-of2 .ensures) (c .before .before .is-term .ensures) (c .before .if4 .left) (c .refused-with4 .ensures)
 
 pub typed-on-spec : {M : Type 1} → statement M
 typed-on-spec =
