@@ -9,24 +9,35 @@ use bench::Pair;
 use std::hint::black_box;
 use std::time::Instant;
 
-/// Microseconds for one call: the least of several rounds of about ten milliseconds.
-fn time(mut call: impl FnMut() -> u64) -> f64 {
-    let once = Instant::now();
-    black_box(call());
-    let calls = (0.01 / once.elapsed().as_secs_f64().max(1e-7)).ceil() as u32;
-    let round = || {
-        let start = Instant::now();
-        for _ in 0..calls {
-            black_box(call());
-        }
-        start.elapsed().as_secs_f64() / f64::from(calls)
-    };
-    std::iter::repeat_with(round).take(9).fold(f64::MAX, f64::min) * 1e6
+/// Seconds for one of so many calls.
+fn round<S>(state: &mut S, call: &impl Fn(&mut S) -> u64, calls: u32) -> f64 {
+    let start = Instant::now();
+    for _ in 0..calls {
+        black_box(call(state));
+    }
+    start.elapsed().as_secs_f64() / f64::from(calls)
+}
+
+/// What a measurement gives with the stack so much deeper.
+fn deeper<T>(levels: usize, measurement: &mut dyn FnMut() -> T) -> T {
+    black_box([0u8; 256]);
+    if levels == 0 { measurement() } else { black_box(deeper(levels - 1, measurement)) }
+}
+
+/// Microseconds for one call of each: the least of fifteen rounds of about ten milliseconds. They take turns, so that a machine whose speed
+/// changes from second to second gives both the same chance, and each round has its own place on the stack: one that lies a multiple of 4 KB
+/// away from the declarations would slow the copies down.
+fn times<S>(state: &mut S, ours: impl Fn(&mut S) -> u64, theirs: impl Fn(&mut S) -> u64) -> (f64, f64) {
+    let calls = |once: f64| (0.01 / once.max(1e-7)).ceil() as u32;
+    let (n, m) = (calls(round(state, &ours, 1)), calls(round(state, &theirs, 1)));
+    let rounds = (0..15).map(|k| deeper(k, &mut || (round(state, &ours, n), round(state, &theirs, m))));
+    let least = rounds.reduce(|a, b| (a.0.min(b.0), a.1.min(b.1))).expect("fifteen rounds");
+    (least.0 * 1e6, least.1 * 1e6)
 }
 
 fn measure(pair: &mut Pair, file: &[u8]) -> (f64, f64) {
     pair.agree(file).expect("both answer alike");
-    (time(|| pair.proved(file)), time(|| pair.checker(file)))
+    times(pair, |pair| pair.proved(file), |pair| pair.checker(file))
 }
 
 /// The typing of single terms.
@@ -36,7 +47,7 @@ fn typing() {
     for (name, is_long, text) in terms::table() {
         let term = terms::Typed::of(if is_long { &long } else { &short }, &text);
         assert_eq!(term.proved(), term.checker(), "{name}: both find one depth");
-        let (ours, theirs) = (time(|| term.proved()), time(|| term.checker()));
+        let (ours, theirs) = times(&mut (), |_| term.proved(), |_| term.checker());
         println!("| {name} | {} | {} | {ours:.2} | {theirs:.2} | {:.2} |", term.length(), if is_long { 63 } else { 1 }, ours / theirs);
     }
     println!();

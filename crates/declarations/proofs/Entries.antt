@@ -3,13 +3,13 @@ use mathlib.Core.Path.{_≡_, refl, _∙_}
 use mathlib.Core.Logic.{_≢_}
 use mathlib.Core.Bool.{Bool, true, false, cond, _&&_, not, and-true, and-false, and-eq-true-iff}
 use mathlib.Core.List.{List, [], _∷_, _++_}
-use Prim.Native.Nat.{ℕ, zero, suc, _+_, _-_, _/_, _%_, _≤_, _<_}
+use Prim.Native.Nat.{ℕ, zero, suc, _+_, _/_, _%_, _≤_, _<_}
 use native.Mathlib.Numerals.{add-one}
 use native.Mathlib.Omega.{arith}
 use borrow.Author.Tests.{eq-eqb, ne-eqb, ltb-true, leb-true, eqb-true}
 use lib.Dec.{ltb, leb, eqb}
-use lib.ListN.{length, take, drop, getD, drop-of-length-le, length-append, length-drop}
-use lib.Seq.{drop-cons, take-length, length-take-le}
+use lib.ListN.{length, take, drop, getD, drop-of-length-le, length-append}
+use lib.Seq.{drop-cons, take-length}
 use Rattle.words.specs.Listed.{allUpTo}
 use Rattle.words.proofs.Listed.{upTo-some, length-upTo, allUpTo-at}
 use Rattle.term.specs.Heads.{Label, type-name, index-product, labelled, word, heads, reading, read}
@@ -36,7 +36,7 @@ module _ (N : ℕ) (ws : List ℕ) (i : ℕ) where
   unfolding indexWords
   index-end h = rw (drop-of-length-le ws h)
 
--- one word is an index where it is a type's name: a product wants more
+-- one word is an index where it may stand in one and is no product, which wants more
 name-part : (w : ℕ) → w / 256 ≡ 1 → length (part (w ∷ []) 0) ≡ 1
 unfolding part first words read heads reading count parse _⧺_
 name-part w h = rw (parse-node w (type-name (w % 256)) none (rw h) [] none refl)
@@ -45,29 +45,19 @@ product-part : length (part (512 ∷ []) 0) ≡ 0
 unfolding part first parse read heads reading
 product-part = refl
 
-one-word : (N w : ℕ) → isIndex N (w ∷ []) ≡ cond (eqb (w / 256) 1) (ltb (w % 256) N) false
+one-word : (N w : ℕ) → isIndex N (w ∷ []) ≡ cond (eqb w 512) false (indexWord N w)
 unfolding isIndex indexWords indexWord
-one-word N w = go (eqb (w / 256) 1) refl (eqb w 512) refl
+one-word N w = go (eqb w 512) refl (eqb (w / 256) 1) refl
   where
-    go : (b : Bool) → eqb (w / 256) 1 ≡ b → (c : Bool) → eqb w 512 ≡ c → isIndex N (w ∷ []) ≡ cond b (ltb (w % 256) N) false
-    go true e c f = rw (name-part w (eqb-true _ _ e), e, and-true (ltb (w % 256) N))
-    go false e true f = let h : w ≡ 512 = eqb-true _ _ f in rw (h, product-part)
+    go : (b : Bool) → eqb w 512 ≡ b → (c : Bool) → eqb (w / 256) 1 ≡ c → isIndex N (w ∷ []) ≡ cond b false (indexWord N w)
+    go true e c f = let h : w ≡ 512 = eqb-true _ _ e in rw (h, product-part)
+    go false e true f = rw (name-part w (eqb-true _ _ f), f, and-true (ltb (w % 256) N))
     go false e false f = rw (e, f) (and-false (eqb (length (part (w ∷ []) 0)) 1))
 
-pub one-index : (N : ℕ) (ws : List ℕ) → length ws ≡ 1 → isIndex N ws ≡ cond (eqb (getD ws 0 0 / 256) 1) (ltb (getD ws 0 0 % 256) N) false
+pub one-index : (N : ℕ) (ws : List ℕ) → length ws ≡ 1 → isIndex N ws ≡ cond (eqb (getD ws 0 0) 512) false (indexWord N (getD ws 0 0))
 one-index N [] e = absurd (omega arith)
 one-index N (w ∷ []) e = one-word N w
 one-index N (v ∷ w ∷ ws) e = absurd (omega arith)
-
--- ---- the n words from an offset on, as the code takes them
-abbrev pub taken : List ℕ → ℕ → ℕ → List ℕ
-taken ds at n = take (at + n - at) (drop at ds)
-
-pub taken-is : (ds : List ℕ) (at n : ℕ) → taken ds at n ≡ take n (drop at ds)
-taken-is ds at n = let z : at + n - at ≡ n = omega arith in rw z
-
-pub length-taken : (ds : List ℕ) (at n : ℕ) → at + n ≤ length ds → length (taken ds at n) ≡ n
-length-taken ds at n h = rw (taken-is ds at n) (length-take-le n (drop at ds) (omega (arith, length-drop at ds)))
 
 -- ---- what the tests of an index and of a variable tell
 all-three : (a b c : Bool) → (a && (b && c)) ≡ true → (a ≡ true) × (b ≡ true) × (c ≡ true)

@@ -4,9 +4,9 @@ pub mod constructor;
 use term::parts::part_end;
 use term::terms::Names;
 ghost use mathlib.Core.Path.{_≡_};
-ghost use mathlib.Core.Bool.{true, false, cond};
-ghost use Prim.Native.Nat.{_+_, _/_, _%_, _≤_, _<_};
-ghost use lib.Dec.{eqb, ltb};
+ghost use mathlib.Core.Bool.{true, cond};
+ghost use Prim.Native.Nat.{_+_, _≤_, _<_};
+ghost use lib.Dec.{eqb};
 ghost use lib.ListN.{length, getD};
 ghost use Rattle.words.specs.Listed.{allUpTo};
 ghost use Rattle.declarations.specs.Declarations.{indexWord, indexWords, isIndex, isVariable, goodBasis, goodVariable, counted, goodDeclarations, namesIn};
@@ -38,18 +38,7 @@ fn are_index_words(types: usize, ws: &[u16]) -> bool
     true
 }
 
-// Whether a word is the name of one of so many types.
-fn is_type_name(types: usize, word: u16) -> bool
-    ensures { λ r. ⌜ r ≡ cond (eqb (word / 256) 1) (ltb (word % 256) types) false ⌝ }
-{
-    if word / 256 == 1 {
-        let name = (word % 256) as usize;
-        return name < types;
-    }
-    false
-}
-
-// Whether all words are exactly one index over so many types. Most indices are one word.
+// Whether all words are exactly one index over so many types. Most are one word, which is not walked.
 pub fn is_index(types: usize, ws: &[u16]) -> bool
     ensures { λ r. ⌜ r ≡ isIndex types (now (ws .entry)) ⌝ }
 {
@@ -57,7 +46,10 @@ pub fn is_index(types: usize, ws: &[u16]) -> bool
         return false;
     }
     if ws.len() == 1 {
-        return is_type_name(types, ws[0]);
+        if ws[0] == 512 {
+            return false;
+        }
+        return is_index_word(types, ws[0]);
     }
     if 63 < ws.len() {
         return false;

@@ -10,7 +10,7 @@ use lib.Seq.{take-at, drop-at, drop-drop}
 use Rattle.term.specs.Heads.{Label, word}
 use Rattle.term.specs.Trees.{Tree, Forest, node, none, _▹_, count, words, words*, Formed, Formed*, depth, depth*, outside, found, subtree, subtree*, replace, replace*, level, level*}
 use Rattle.term.specs.Parts.{parse}
-use Rattle.term.specs.Terms.{Above, under, above, levelAt}
+use Rattle.term.specs.Terms.{under, above, levelAt}
 use Rattle.term.proofs.Parsing.{some-words, parse-words}
 
 -- ---- the walk to a place
@@ -161,9 +161,6 @@ see t k h =
 
 pub place : (t : Tree) (k : ℕ) → k < length (words t) → Place t k
 place t k h = see t k h .place
-
-pub subtree-replace : (t : Tree) (k : ℕ) (u : Tree) → k < length (words t) → subtree (replace t k u) k ≡ found u
-subtree-replace t k u h = let p = see t k h in tree-offset (at-put (p .at) u) k (p .place .offset) .0
 
 pub level-replace : (t : Tree) (k : ℕ) (u : Tree) → k < length (words t) → level t k + depth u ≤ depth (replace t k u)
 unfolding depth

@@ -1,9 +1,8 @@
 -- What the rules derive, the function finds: `typeOf` gives T where the relation does, so T is the only one.
 use mathlib.Core.Path.{_≡_, refl, _∙_, ap}
-use mathlib.Core.Bool.{true}
 use mathlib.Core.List.{List, [], _∷_}
 use Prim.Native.Nat.{ℕ, _+_}
-use borrow.Author.Tests.{eq-eqb, lt-ltb, le-leb}
+use borrow.Author.Tests.{lt-ltb, le-leb}
 use lib.ListN.{length}
 use Rattle.words.proofs.Runs.{same-words}
 use Rattle.term.specs.Trees.{Tree, Forest, words}

@@ -1,14 +1,14 @@
 -- The tests of the typing of one term, one after the other, and what its answer says by the published rules.
 use mathlib.Core.Path.{_≡_, refl, sym, _∙_, ap}
-use mathlib.Core.Bool.{true, false, cond, and-eq-true-iff}
+use mathlib.Core.Bool.{true, false, and-eq-true-iff}
 use mathlib.Core.Logic.{_≢_}
 use mathlib.Core.List.{List, [], _∷_, _++_}
 use Prim.Native.Nat.{ℕ, zero, suc, _+_, _-_, _≤_, _<_}
+use native.Mathlib.Nat.{add-sub-cancel-left}
 use native.Mathlib.Omega.{arith}
 use borrow.Author.Tests.{eq-eqb, ne-eqb, leb-true}
-use lib.Dec.{eqb, leb}
+use lib.Dec.{leb}
 use lib.ListN.{length, take, drop, replicate}
-use lib.Seq.{length-take-le}
 use Rattle.words.specs.Words.{overlaid}
 use Rattle.term.specs.declared.terms.Names.{Names}
 use Rattle.term.specs.Parts.{parse, first, part, treeIn}
@@ -18,15 +18,15 @@ use Rattle.term.proofs.Parsing.{parse-tree, some-words}
 use Rattle.term.proofs.TermTest.{term-tree}
 use Rattle.typing.specs.declared.sorts.Sorted as S
 use Rattle.typing.specs.declared.terms.Kind as K
-use Rattle.typing.specs.declared.terms.Kind.the-variants as Kinds
 use Rattle.typing.specs.declared.terms.Typing as A
 use Rattle.typing.specs.Answers.{pad, typeRecord, refuse, typing, answerOf, typingOf}
 use Rattle.declarations.specs.Declarations.{contextIn, namesIn, goodDeclarations}
 use Rattle.types.specs.Sorts.{Sort, index, basis, scalar, ket, bra, operator}
 use Rattle.types.specs.TypeOf.{typed, typeOf}
 use Rattle.typebook.specs.Shapes.{Shape, shapeOf, numberOf}
-use Rattle.typing.specs.Code.Shapes.{shapeAt, run, Small}
-use Rattle.typing.proofs.Lying.{run-length, run-taken}
+use Rattle.typing.specs.Code.Shapes.{shapeAt, Small}
+use Rattle.typing.specs.Code.Verdicts.{kindOf}
+use Rattle.typing.proofs.Lying.{run-length}
 
 -- the words that pass test 8 are those of a term
 pub record Here (N : Names) (ws : List ℕ) (n : ℕ) : Type 0 where
@@ -95,41 +95,41 @@ padded : (src : List ℕ) → length src ≤ 63 → overlaid (replicate 63 0) sr
 unfolding overlaid pad
 padded src h = over-zeros src 63 63 h (omega arith)
 
-pub accepts : (n d : ℕ) (k : K.Kind) (st : List ℕ) (l m : ℕ) (rows columns : List ℕ) → (l ≤ 63) × (m ≤ 63) × (126 ≤ length st) → rows ≡ overlaid (replicate 63 0) (take l st)
-    → columns ≡ overlaid (replicate 63 0) (take (l + m - l) (drop l st))
-    → _≡_ {A = A.Typing} (record { code = 0; side = 0; step = 0; at = 0; length = n; depth = d; of = record { kind = k; rows = rows; columns = columns } }) (typing n d k (take l st) (take m (drop l st)))
-unfolding typing typeRecord
-accepts n d k st l m rows columns h e f =
-    let x = length-take-le l st (omega arith) in
-    let y = run-length st l m (omega arith) in
-    rw (e, f, run-taken, padded (take l st) (omega arith), padded (run st l m) (omega arith))
-
 -- ---- the answer by the number of the class
-unfoldable pub answerBy : ℕ → ℕ → ℕ → ℕ → ℕ → List ℕ → List ℕ → A.Typing
-answerBy n d k l r xs ys =
-    cond (eqb k 3) (typing n d Kinds.Scalar xs ys)
-    (cond (eqb k 4) (typing n d (Kinds.Ket l) xs ys)
-    (cond (eqb k 5) (typing n d (Kinds.Bra r) xs ys)
-    (cond (eqb k 6) (typing n d (Kinds.Operator l r) xs ys) (refuse 11 0))))
+-- a sort is a type unless it is an index or a basis, by the number of its class
+low : (n d : ℕ) (T : Sort) → numberOf (shapeOf T .class) < 3 → refuse 11 0 ≡ answerOf n d (typed T)
+unfolding answerOf
+low n d (index σ) h = refl
+low n d (basis σ) h = refl
+low n d scalar h = absurd (omega arith)
+low n d (ket σ) h = absurd (omega arith)
+low n d (bra σ) h = absurd (omega arith)
+low n d (operator σ τ) h = absurd (omega arith)
 
-sort-answer : (n d : ℕ) (T : Sort)
-    → answerBy n d (numberOf (shapeOf T .class)) (length (shapeOf T .left)) (length (shapeOf T .right)) (shapeOf T .left) (shapeOf T .right) ≡ answerOf n d (typed T)
-unfolding answerOf answerBy
-sort-answer n d (index σ) = refl
-sort-answer n d (basis σ) = refl
-sort-answer n d scalar = refl
-sort-answer n d (ket σ) = refl
-sort-answer n d (bra σ) = refl
-sort-answer n d (operator σ τ) = refl
+high : (n d : ℕ) (T : Sort) → 3 ≤ numberOf (shapeOf T .class)
+    → typing n d (kindOf (numberOf (shapeOf T .class)) (length (shapeOf T .left)) (length (shapeOf T .right))) (shapeOf T .left) (shapeOf T .right) ≡ answerOf n d (typed T)
+unfolding answerOf
+high n d (index σ) h = absurd (omega arith)
+high n d (basis σ) h = absurd (omega arith)
+high n d scalar h = refl
+high n d (ket σ) h = refl
+high n d (bra σ) h = refl
+high n d (operator σ τ) h = refl
 
 -- with the words at the bottom of the stack
-pub answered-on : (n d : ℕ) (s : S.Sorted) (st : List ℕ) (r : A.Typing) → Small s × (126 ≤ length st) → r ≡ answerBy n d (numberOf (s .class)) (s .left) (s .right) (take (s .left) st) (take (s .right) (drop (s .left) st))
-    → (T : Sort) → shapeAt st 0 s ≡ shapeOf T → r ≡ answerOf n d (typed T)
-answered-on n d s st r h e T is =
-    let z : 0 + s .left ≡ s .left = omega arith in
-    let x : take (s .left) st ≡ shapeOf T .left = ap (λ (x : Shape). x .left) is in
-    let y : take (s .right) (drop (s .left) st) ≡ shapeOf T .right = rw z at (ap (λ (x : Shape). x .right) is) in
-    let c : s .class ≡ shapeOf T .class = ap (λ (x : Shape). x .class) is in
-    let l : s .left ≡ length (shapeOf T .left) = sym (run-length st 0 (s .left) (omega arith)) ∙ ap length x in
-    let m : s .right ≡ length (shapeOf T .right) = sym (run-length st (s .left) (s .right) (omega arith)) ∙ ap length y in
-    e ∙ rw (x, y, c, l, m) (sort-answer n d T)
+module _ (n d : ℕ) {k : ℕ} (s : S.Sorted) (st : List ℕ) (pre : Small s × (126 ≤ length st)) (e : k ≡ numberOf (s .class)) where
+  pub no-type : {r : A.Typing} → k < 3 → r ≡ refuse 11 0 → (T : Sort) → shapeAt st 0 s ≡ shapeOf T → r ≡ answerOf n d (typed T)
+  no-type h f T is = f ∙ low n d T (rw (← ap (λ (x : Shape). x .class) is, ← e) h)
+
+  pub a-type : {kind : K.Kind} {rows columns : List ℕ} → 3 ≤ k → kind ≡ kindOf k (s .left) (s .right) → rows ≡ overlaid (replicate 63 0) (take (s .left) st)
+      → columns ≡ overlaid (replicate 63 0) (take (s .left + s .right - s .left) (drop (s .left) st)) → (T : Sort) → shapeAt st 0 s ≡ shapeOf T
+      → _≡_ {A = A.Typing} (record { code = 0; side = 0; step = 0; at = 0; length = n; depth = d; of = record { kind = kind; rows = rows; columns = columns } }) (answerOf n d (typed T))
+  unfolding typing typeRecord
+  a-type h f x y T is =
+      let z : 0 + s .left ≡ s .left = omega arith in
+      let c : s .class ≡ shapeOf T .class = ap (λ (x : Shape). x .class) is in
+      let i : take (s .left) st ≡ shapeOf T .left = ap (λ (x : Shape). x .left) is in
+      let j : take (s .right) (drop (s .left) st) ≡ shapeOf T .right = rw z at (ap (λ (x : Shape). x .right) is) in
+      let l : s .left ≡ length (shapeOf T .left) = sym (run-length st 0 (s .left) (omega arith)) ∙ ap length i in
+      let m : s .right ≡ length (shapeOf T .right) = sym (run-length st (s .left) (s .right) (omega arith)) ∙ ap length j in
+      rw (x, y, f, add-sub-cancel-left, i, j, padded (shapeOf T .left) (omega arith), padded (shapeOf T .right) (omega arith), e, c, l, m) (high n d T (rw (← c, ← e) h))

@@ -2,7 +2,7 @@
 use mathlib.Core.Path.{_≡_, refl, sym, _∙_, ap}
 use mathlib.Core.Bool.{Bool, true, false, cond, _&&_, and-eq-true-iff}
 use mathlib.Core.Logic.{_≢_, _⊎_, inl, inr}
-use mathlib.Core.List.{List, [], _∷_, _++_}
+use mathlib.Core.List.{List, [], _∷_, _++_, append-nil}
 use mathlib.Core.Option.{Option, some}
 use Prim.Native.Nat.{ℕ, zero, suc, _+_, _/_, _%_, _≤_, _<_}
 use native.Mathlib.Numerals.{add-one}
@@ -11,17 +11,17 @@ use borrow.Author.Tests.{ne-eqb, leb-true, eqb-true}
 use lib.Dec.{eqb}
 use lib.ListN.{length, take, getD, set, length-append, length-set}
 use lib.Seq.{take-suc-set}
-use Rattle.words.specs.Words.{laid, Added}
+use Rattle.words.specs.Words.{sameWords, laid, Added}
 use Rattle.words.proofs.Runs.{added-both}
 use Rattle.term.specs.declared.heads.Class.{Class}
 use Rattle.typing.specs.declared.sorts.Gathered as G
 use Rattle.typing.specs.declared.sorts.Plan as P
 use Rattle.typing.specs.declared.sorts.Run as R
 use Rattle.typebook.specs.Shapes.{Shape, shape, given}
-use Rattle.typing.specs.Code.Shapes.{shapeAt, run, runAt, Inside, Small, Ready, Answers}
-use Rattle.typebook.specs.Lines.{ruleAt, pieceOf, isProduct, pairOf, sideOf, shortBoth, fitted, met, classBy, shaped, byLine, childrenOf}
-use Rattle.typing.specs.Code.Conclude.{placeOf, sideSize, planOf, standing, sidesOf, Laying}
-use Rattle.typing.proofs.Lying.{run-length, above-refl, above-laid, shape-laid, laid-same}
+use Rattle.typing.specs.Code.Shapes.{shapeAt, run, runAt, Inside, Small, Ready}
+use Rattle.typebook.specs.Lines.{ruleAt, pieceOf, pairOf, sideOf, shortBoth, fitted, met, classBy, shaped, byLine, childrenOf}
+use Rattle.typing.specs.Code.Conclude.{placeOf, sideSize, product, leftAt, rightAt, rowsOf, columnsOf, planOf, standing, sidesOf, Laying, Concludes}
+use Rattle.typing.proofs.Lying.{run-length, run-both, above-refl, above-laid, shape-laid, laid-same}
 
 -- ---- where an index stands by its digit
 pub no-piece : {A : Type 0} (d a b c e : A) (k : ℕ) → k ≢ 1 → k ≢ 2 → k ≢ 3 → k ≢ 4 → getD (d ∷ a ∷ b ∷ c ∷ e ∷ []) k d ≡ d
@@ -53,6 +53,14 @@ placed r (suc (suc (suc zero))) = record { is = refl; inside = omega arith }
 placed r (suc (suc (suc (suc zero)))) = record { is = refl; inside = omega arith }
 placed r (suc (suc (suc (suc (suc k))))) = record { is = refl; inside = omega arith }
 
+-- 1 and 2 as what is asked: the first's index of that digit is the second's
+pub met-run : (t : ℕ) (a b : Shape) (alike : Bool) → t ≢ 0 → t < 3 → met t a b alike ≡ sameWords (pieceOf t a b) (pieceOf 3 a b)
+unfolding met
+met-run zero a b alike z h = absurd (z refl)
+met-run (suc zero) a b alike z h = refl
+met-run (suc (suc zero)) a b alike z h = refl
+met-run (suc (suc (suc t))) a b alike z h = absurd (omega arith)
+
 -- ---- an index, or a product of two
 pub pair-some : (i j : List ℕ) → length i ≢ 0 → pairOf i j ≡ 512 ∷ (i ++ j)
 unfolding pairOf
@@ -82,6 +90,14 @@ in-place {st} {p} {top} {g} h n a b =
     let r = run-length st (p .right .at) (p .right .len) (h .right-inside) in
     let k = rw (n, length-append (runAt st (p .left)) (runAt st (p .right))) at (h .few) in
     rw (n, stands-run st (p .left) top a, stands-run st (p .right) (top + p .left .len) b) (sym (laid-same st top (p .left .len) (p .right .len) (omega (arith, h .ready .room))))
+
+-- one product of two that stand one behind the other
+pub inserted : {st : List ℕ} {p : P.Plan} {top : ℕ} {g : G.Gathered} → Laying st p top g → p .product ≡ true → standing (p .left) top ≡ true → p .left .len ≢ 0 → p .right .len ≡ 0 → g .at ≡ top + p .left .len
+    → laid st top (512 ∷ run st top (p .left .len + g .latest .left)) ≡ laid st top (sidesOf st p top g)
+unfolding sideOf pairOf
+inserted {st} {p} {top} {g} h y s full right next =
+    let l = run-length st (p .left .at) (p .left .len) (h .left-inside) in
+    rw (y, pair-some (runAt st (p .left)) (runAt st (placeOf 3 top g)) (λ z. full (sym l ∙ z)), right, append-nil (runAt st (p .left) ++ runAt st (placeOf 3 top g)), stands-run st (p .left) top s, next, run-both st top (p .left .len) (g .latest .left))
 
 -- one side behind the other, made apart
 pub record Made (ws out′ : List ℕ) (e : ℕ) : Type 0 where
@@ -120,22 +136,6 @@ module _ (st : List ℕ) (p q : R.Run) {out out′ : List ℕ} {to e : ℕ} {pro
       rw (y, pair-some (runAt st p) (runAt st q) (λ z. n (sym l ∙ z))) (added-both (added-both w a) b)
 
 -- ---- a plan
--- the line of a head, and where it places the sides
-abbrev leftAt : ℕ → ℕ → G.Gathered → R.Run
-leftAt rule top g = placeOf (rule / 16 % 16) top g
-
-abbrev rightAt : ℕ → ℕ → G.Gathered → R.Run
-rightAt rule top g = placeOf (rule % 16) top g
-
-abbrev product : ℕ → Bool
-product rule = isProduct (rule / 4096)
-
-abbrev rows : ℕ → ℕ → G.Gathered → ℕ
-rows rule top g = sideSize (product rule) (leftAt rule top g .len) (g .latest .left)
-
-abbrev columns : ℕ → ℕ → G.Gathered → ℕ
-columns rule top g = sideSize (product rule) (rightAt rule top g .len) (g .latest .right)
-
 -- a plan by its parts, as the code finds them
 pub plan-is : (h n : ℕ) (m : Bool) (top : ℕ) (g : G.Gathered) {rule rows columns : ℕ} {left right : R.Run} {fit well : Bool} {class : Class} → rule ≡ ruleAt h → left ≡ leftAt rule top g → right ≡ rightAt rule top g
     → rows ≡ sideSize (product rule) (left .len) (g .latest .left) → columns ≡ sideSize (product rule) (right .len) (g .latest .right) → fit ≡ fitted h n (g .first .class) (g .latest .class)
@@ -179,7 +179,7 @@ module _ (h n : ℕ) {top : ℕ} {g : G.Gathered} {st : List ℕ} (ready : Ready
   planned = rw (← meets, ← placed ready (rule / 16 % 16) .is, ← placed ready (rule % 16) .is, size-of (rule / 16 % 16) 3, size-of (rule % 16) 4) (three (fitted h n (g .first .class) (g .latest .class)) m _ _)
 
   module _ {p : P.Plan} (is : p ≡ planOf h n m top g) where
-    pub rejects : p .typed ≡ false → Answers (childrenOf h n (shapeAt st top (g .first)) (shapeAt st (g .at) (g .latest)) (g .alike)) (record { typed = false; sorted = p .sorted }) top st st
+    pub rejects : p .typed ≡ false → Concludes h n top g st (record { typed = false; sorted = p .sorted }) st
     rejects e =
         let t : plan .typed ≡ false = sym (ap (λ (x : P.Plan). x .typed) is) ∙ e in
         record { told = sym (planned ∙ rw t); small = λ y. absurd (let z : _≡_ {A = ℕ} 0 1 = cc in omega arith); kept = above-refl top st }
@@ -188,7 +188,7 @@ module _ (h n : ℕ) {top : ℕ} {g : G.Gathered} {st : List ℕ} (ready : Ready
       typed-plan : plan .typed ≡ true
       typed-plan = sym (ap (λ (x : P.Plan). x .typed) is) ∙ typed
 
-      sides-few : (rows rule top g ≤ 63) × (columns rule top g ≤ 63)
+      sides-few : (rowsOf rule top g ≤ 63) × (columnsOf rule top g ≤ 63)
       unfolding planOf
       sides-few =
           let a = and-eq-true-iff (fitted h n (g .first .class) (g .latest .class)) _ .0 typed-plan in
@@ -202,7 +202,7 @@ module _ (h n : ℕ) {top : ℕ} {g : G.Gathered} {st : List ℕ} (ready : Ready
       unfolding planOf
       laying = rw is (record { ready = ready; left-inside = placed ready (rule / 16 % 16) .inside; right-inside = placed ready (rule % 16) .inside; few = sides-length })
 
-      pub concludes : {st′ : List ℕ} → st′ ≡ laid st top (sidesOf st p top g) → Answers (childrenOf h n (shapeAt st top (g .first)) (shapeAt st (g .at) (g .latest)) (g .alike)) (record { typed = true; sorted = p .sorted }) top st st′
+      pub concludes : {st′ : List ℕ} → st′ ≡ laid st top (sidesOf st p top g) → Concludes h n top g st (record { typed = true; sorted = p .sorted }) st′
       unfolding planOf
       concludes l =
           let b : top + length (lefts ++ rights) ≤ length st = omega (arith, sides-length, ready .room) in

@@ -1,5 +1,5 @@
 -- What the walk found of some words decides the answer for them.
-use mathlib.Core.Path.{_≡_, sym, _∙_}
+use mathlib.Core.Path.{_≡_, refl, sym, _∙_}
 use mathlib.Core.Logic.{_≢_}
 use mathlib.Core.Bool.{Bool, true, false, not}
 use mathlib.Core.List.{List}
@@ -8,6 +8,7 @@ use native.Mathlib.Omega.{arith}
 use borrow.Author.Tests.{eq-eqb, not-true, not-false}
 use lib.ListN.{length, take}
 use lib.Seq.{length-take-le, take-length}
+use Rattle.words.specs.Words.{overlaid}
 use Rattle.term.specs.declared.terms.Names.{Names}
 use Rattle.term.specs.Parts.{parse, treeIn}
 use Rattle.term.specs.Terms.{maxWords, maxDepth, partDepth, allDeclared, termWords, isTerm}
@@ -15,7 +16,7 @@ use Rattle.term.specs.Trees.{depth}
 use Rattle.term.proofs.Scan.{part-length}
 use Rattle.term.proofs.TermTest.{term-in, term-end, term-names}
 use Rattle.declarations.specs.Declarations.{contextIn, namesIn, goodDeclarations}
-use Rattle.types.specs.Sorts.{Sort}
+use Rattle.types.specs.Sorts.{Sort, Context}
 use Rattle.types.specs.TypeOf.{typed, typeOf}
 use Rattle.typing.specs.declared.infer.Verdict as Answer
 use Rattle.typing.specs.declared.terms.Typing as A
@@ -23,12 +24,43 @@ use Rattle.typing.specs.Answers.{refuse, answerOf, typingOf}
 use Rattle.typebook.specs.Shapes.{shapeOf}
 use Rattle.typing.specs.Code.Shapes.{shapeAt}
 use Rattle.typing.specs.Code.Verdicts.{Found, typingIn}
+use Rattle.typing.proofs.Lying.{shape-kept, length-overlaid, bottom-kept}
 use Rattle.typing.proofs.Answering.{here, here-part, here-shallow}
 
 -- the answer for the first n words of a slice is that for those words
 pub within : (ds ws : List ℕ) (n : ℕ) → length ws ≡ maxWords → goodDeclarations ds ≡ true → n ≤ length ws → typingIn ds (take n ws) ≡ typingOf ds ws n
 unfolding typingIn typingOf
 within ds ws n size good inside = rw (eq-eqb _ _ size, good, term-in (namesIn ds) ws n inside, length-take-le n ws inside)
+
+-- the stack is as long as it was
+pub found-room : {Γ : Context} {ws : List ℕ} {budget top : ℕ} {v : Answer.Verdict} {st st′ : List ℕ} → Found Γ ws budget top v st st′ → (n : ℕ) → n ≤ length st → n ≤ length st′
+found-room f n h = let l = f .kept .long in omega arith
+
+pub found-front : {Γ : Context} {ws : List ℕ} {budget top : ℕ} {v : Answer.Verdict} {st st′ : List ℕ} → Found Γ ws budget top v st st′ → (n : ℕ) → n ≤ length st → n ≡ length (take n st′)
+found-front f n h = sym (length-take-le n _ (found-room f n h))
+
+-- what was found on one stack, with its words at the bottom of another
+pub found-moved : {Γ : Context} {ws : List ℕ} {budget : ℕ} {v : Answer.Verdict} {st st′ : List ℕ} → Found Γ ws budget 0 v st st′ → (out : List ℕ) → 126 ≤ length st′ → 126 ≤ length out
+    → {out′ : List ℕ} → out′ ≡ overlaid out (take 126 st′) → Found Γ ws budget 0 v out out′
+found-moved {v = v} {st′ = st′} f out h k e =
+    rw e (record {
+      kept = record { long = length-overlaid out (take 126 st′); below = refl };
+      bound = f .bound;
+      settled = λ y.
+          let s = f .settled y in
+          let m = s .small in
+          record {
+            sort = s .sort;
+            whole = s .whole;
+            is = s .is;
+            size = s .size;
+            depth = s .depth;
+            shallow = s .shallow;
+            small = m;
+            sorted = shape-kept 126 st′ (overlaid out (take 126 st′)) (bottom-kept st′ out 126 h k) 0 (v .sorted) (omega arith) ∙ s .sorted;
+          };
+      unsettled = f .unsettled;
+    })
 
 module _ (ds ws : List ℕ) where
   not-term : termWords (namesIn ds) ws ≡ false → typingIn ds ws ≡ refuse 8 0

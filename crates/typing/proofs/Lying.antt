@@ -1,33 +1,49 @@
 -- Words on a stack: what stays and what changes when others are laid over it.
 use mathlib.Core.Path.{_≡_, refl, sym, _∙_, ap}
+use mathlib.Core.Logic.{_≢_}
+use mathlib.Core.Bool.{false, _&&_}
 use mathlib.Core.List.{List, [], _∷_, _++_, append-assoc}
-use Prim.Native.Nat.{ℕ, zero, suc, _+_, _-_, _≤_, _<_}
-use native.Mathlib.Decide.{decLe}
+use Prim.Native.Nat.{ℕ, zero, suc, _+_, _≤_, _<_}
 use native.Mathlib.Numerals.{add-one}
 use native.Mathlib.Omega.{arith}
 use lib.ListN.{length, take, drop, set, length-append, length-take, length-drop, take-append-drop}
-use lib.Seq.{length-take-le, take-nil, take-append-seam, drop-append-seam, set-split, take-take, take-at, drop-drop, take-add, drop-at}
-use Rattle.words.specs.Words.{laid}
-use Rattle.words.proofs.Runs.{laid-in, laid-out}
+use lib.Seq.{take-all, length-take-le, take-nil, take-append-seam, drop-append-seam, set-split, take-take, take-at, drop-drop, take-add, drop-at}
+use Rattle.words.specs.Words.{overlaid, sameWords, laid}
+use Rattle.words.proofs.Runs.{same-both, same-lengths, laid-in}
 use Rattle.term.specs.declared.heads.Class.{Class}
 use Rattle.typing.specs.declared.sorts.Sorted as S
 use Rattle.typebook.specs.Shapes.{shape}
-use Rattle.typing.specs.Code.Shapes.{run, shapeAt, Above}
+use Rattle.typing.specs.Code.Shapes.{run, shapeAt, Small, Room, Above}
 
 -- ---- runs
 -- as many words as are asked for, where there are
 pub run-length : (st : List ℕ) (at n : ℕ) → at + n ≤ length st → length (run st at n) ≡ n
 run-length st at n h = length-take-le n (drop at st) (omega (arith, length-drop at st))
 
--- as the code takes them
-pub run-taken : (st : List ℕ) (at n : ℕ) → take (at + n - at) (drop at st) ≡ run st at n
-run-taken st at n = let z : at + n - at ≡ n = omega arith in rw z
-
 -- a run behind others, as a part of all
 run-is : (at n : ℕ) (st : List ℕ) → run st at n ≡ drop at (take (at + n) st)
 run-is zero n st = let z : 0 + n ≡ n = omega arith in rw z
 run-is (suc at) n [] = rw (take-nil n, take-nil (suc at + n))
 run-is (suc at) n (w ∷ st) = let z : suc at + n ≡ suc (at + n) = omega arith in rw z (run-is at n st)
+
+-- one behind the other
+pub run-both : (st : List ℕ) (at n m : ℕ) → run st at n ++ run st (at + n) m ≡ run st at (n + m)
+run-both st at n m = rw (take-add, drop-drop)
+
+-- the two indices of two sorts are the same: they have as many words each, and all of them are
+module _ (st : List ℕ) (top at : ℕ) (a b : S.Sorted) (pre : Room top st × Room at st × Small a × Small b) where
+  pub other-lengths : a .left ≢ b .left → false ≡ (sameWords (run st top (a .left)) (run st at (b .left)) && sameWords (run st (top + a .left) (a .right)) (run st (at + b .left) (b .right)))
+  other-lengths h =
+      let l = run-length st top (a .left) (omega arith) in
+      let m = run-length st at (b .left) (omega arith) in
+      rw (same-lengths (run st top (a .left)) (run st at (b .left)) (λ e. h (omega arith)))
+
+  pub both-same : a .left ≡ b .left → sameWords (run st top (a .left + a .right)) (run st at (b .left + b .right))
+      ≡ (sameWords (run st top (a .left)) (run st at (b .left)) && sameWords (run st (top + a .left) (a .right)) (run st (at + b .left) (b .right)))
+  both-same h =
+      let l = run-length st top (a .left) (omega arith) in
+      let m = run-length st at (b .left) (omega arith) in
+      rw (← run-both st top (a .left) (a .right), ← run-both st at (b .left) (b .right)) (same-both (run st top (a .left)) (run st at (b .left)) _ _ (omega arith))
 
 -- ---- what did not change
 pub above-refl : (top : ℕ) (st : List ℕ) → Above top st st
@@ -40,27 +56,35 @@ above-trans p q = record { long = q .long ∙ p .long; below = q .below ∙ p .b
 pub above-lower : {low top : ℕ} {st st′ : List ℕ} → low ≤ top → Above top st st′ → Above low st st′
 above-lower {low} {top} {st} {st′} h a = record { long = a .long; below = sym (take-take low top st′ h) ∙ ap (take low) (a .below) ∙ take-take low top st h }
 
-module _ {top : ℕ} {st st′ : List ℕ} (a : Above top st st′) where
+module _ (top : ℕ) (st st′ : List ℕ) (same : take top st′ ≡ take top st) where
   run-kept : (at n : ℕ) → at + n ≤ top → run st′ at n ≡ run st at n
-  run-kept at n h = rw (run-is at n st′, run-is at n st, ← take-take (at + n) top st′ h, ← take-take (at + n) top st h, a .below)
+  run-kept at n h = rw (run-is at n st′, run-is at n st, ← take-take (at + n) top st′ h, ← take-take (at + n) top st h, same)
 
   pub shape-kept : (at : ℕ) (s : S.Sorted) → at + s .left + s .right ≤ top → shapeAt st′ at s ≡ shapeAt st at s
   shape-kept at s h = rw (run-kept at (s .left) (omega arith), run-kept (at + s .left) (s .right) h)
 
 -- ---- words laid over a stack
 module _ (st : List ℕ) (to : ℕ) (ws : List ℕ) where
-  pub length-laid : length (laid st to ws) ≡ length st
-  length-laid = elim (decLe (to + length ws) (length st)) [
-    | yes h ↦ rw (laid-in st to ws h) (simp (length-append, length-take, length-drop) (omega arith))
-    | no h ↦ rw (laid-out st to ws (omega arith))
-  ]
-
   module _ (fits : to + length ws ≤ length st) where
+    length-laid : length (laid st to ws) ≡ length st
+    length-laid = rw (laid-in st to ws fits) (simp (length-append, length-take, length-drop) (omega arith))
+
     pub above-laid : Above to st (laid st to ws)
     above-laid = record { long = length-laid; below = rw (laid-in st to ws fits) (take-at (take to st) (ws ++ drop (to + length ws) st) to (length-take-le to st (omega arith))) }
 
     laid-from : drop to (laid st to ws) ≡ ws ++ drop (to + length ws) st
     laid-from = rw (laid-in st to ws fits) (drop-at (take to st) (ws ++ drop (to + length ws) st) to (length-take-le to st (omega arith)))
+
+-- the first words of one stack over those of another
+pub length-overlaid : (out ws : List ℕ) → length (overlaid out ws) ≡ length out
+unfolding overlaid
+length-overlaid out ws = simp (length-append, length-take, length-drop) (omega arith)
+
+pub bottom-kept : (st out : List ℕ) (n : ℕ) → n ≤ length st → n ≤ length out → take n (overlaid out (take n st)) ≡ take n st
+unfolding overlaid
+bottom-kept st out n h k =
+    let l = length-take-le n st h in
+    rw (take-all (length out) (take n st) (omega arith)) (take-at (take n st) (drop (length (take n st)) out) n l)
 
 -- one run behind another
 pub laid-both : (st : List ℕ) (to : ℕ) (xs ys : List ℕ) → to + length xs + length ys ≤ length st → laid (laid st to xs) (to + length xs) ys ≡ laid st to (xs ++ ys)
@@ -69,7 +93,7 @@ laid-both st to xs ys h =
     let s : length (take to st ++ xs) ≡ to + length xs = simp (length-append, length-take) (omega arith) in
     let rest = drop (to + length xs) st in
     let x : laid st to xs ≡ (take to st ++ xs) ++ rest = rw (laid-in st to xs (omega arith), append-assoc) in
-    let n = length-laid st to xs in
+    let n = length-laid st to xs (omega arith) in
     let d : drop (to + length xs + length ys) ((take to st ++ xs) ++ rest) ≡ drop (to + length (xs ++ ys)) st =
     sym (drop-drop (length ys) (to + length xs) ((take to st ++ xs) ++ rest)) ∙ ap (drop (length ys)) (drop-at (take to st ++ xs) rest (to + length xs) s)
     ∙ drop-drop (length ys) (to + length xs) st ∙ (let z : to + length xs + length ys ≡ to + length (xs ++ ys) = omega arith in rw z)
@@ -87,9 +111,8 @@ shape-laid c st top i j h =
 -- and what is there already does not change
 pub laid-same : (st : List ℕ) (top n m : ℕ) → top + n + m ≤ length st → laid st top (run st top n ++ run st (top + n) m) ≡ st
 laid-same st top n m h =
-    let e : run st top n ++ run st (top + n) m ≡ run st top (n + m) = rw (take-add, drop-drop) in
     let l = run-length st top (n + m) (omega arith) in
-    rw (e, laid-in st top (run st top (n + m)) (omega arith), l, ← drop-drop (n + m) top st, take-append-drop (n + m) (drop top st)) (take-append-drop top st)
+    rw (run-both st top n m, laid-in st top (run st top (n + m)) (omega arith), l, ← drop-drop (n + m) top st, take-append-drop (n + m) (drop top st)) (take-append-drop top st)
 
 pub set-laid : (st : List ℕ) (i w : ℕ) → i < length st → set st i w ≡ laid st i (w ∷ [])
 set-laid st i w h = rw (laid-in st i (w ∷ []) (omega arith), add-one) (set-split st i w h)

@@ -22,7 +22,7 @@ use Rattle.typing.specs.declared.infer.Verdict as Answer
 use Rattle.typebook.specs.Shapes.{Shape, given}
 use Rattle.typing.specs.Code.Shapes.{Above, Answers}
 use Rattle.typebook.specs.Lines.{concluded}
-use Rattle.typing.specs.Code.Verdicts.{refusal, Unsettled, Found}
+use Rattle.typing.specs.Code.Verdicts.{refusal, settlement, Unsettled, Found}
 use Rattle.typing.proofs.Lying.{above-trans, above-lower}
 use Rattle.types.proofs.Walk.{typed-at, untyped-at, types-more, types-fail, next-child}
 
@@ -117,7 +117,7 @@ given-some false x y e = (cc, cc)
 module _ {Γ : Context} {ws : List ℕ} {budget top next k deepest : ℕ} {list : List Sort} {st st′ : List ℕ} (p : Passed Γ ws next k deepest list) (shallow : deepest < budget)
     (l : Label) (reads : read (getD ws 0 0) ≡ labelled l k) (some : 0 < length ws) where
   settled-by : (c : Conclusion) → conclude Γ l list ≡ c → {o : O.Outcome} → Answers (concluded c) o top st st′
-      → Found Γ ws budget top (record { typed = o .typed; at = 0; size = next; depth = deepest + 1; sorted = o .sorted }) st st′
+      → Found Γ ws budget top (settlement next (deepest + 1) o) st st′
   unfolding decide
   settled-by fails e {o} a =
       let n = given-none (o .typed) _ (a .told) in
@@ -143,7 +143,7 @@ module _ {Γ : Context} {ws : List ℕ} {budget top next k deepest : ℕ} {list 
       }
 
   pub settles : {o : O.Outcome} → Answers (concluded (conclude Γ l list)) o top st st′ → {r : Answer.Verdict}
-      → r ≡ record { typed = o .typed; at = 0; size = next; depth = deepest + 1; sorted = o .sorted } → Found Γ ws budget top r st st′
+      → r ≡ settlement next (deepest + 1) o → Found Γ ws budget top r st st′
   settles a is = rw is (settled-by (conclude Γ l list) refl a)
 
 -- no part at all

@@ -5,6 +5,7 @@ use mathlib.Core.Bool.{Bool, _&&_, and-true, and-assoc}
 use mathlib.Core.List.{List, [], _∷_, _++_}
 use Prim.Native.Nat.{ℕ, _+_, _-_, _*_, _/_, _≤_, _<_, max}
 use native.Mathlib.Omega.{arith}
+use borrow.Author.Tests.{eq-eqb, ne-eqb}
 use lib.ListN.{length, drop, getD, length-append, length-drop}
 use Rattle.term.specs.Heads.{Label, labelled, read, arityOf}
 use Rattle.term.specs.declared.heads.Arity.the-variants.{Children}
@@ -17,10 +18,11 @@ use Rattle.typing.specs.declared.infer.Verdict as Answer
 use Rattle.typing.specs.declared.sorts.Outcome as O
 use Rattle.typing.specs.declared.sorts.Sorted as S
 use Rattle.typebook.specs.Shapes.{Shape, shapeOf}
-use Rattle.typing.specs.Code.Shapes.{shapeAt, Small, Ready, Above, plain, Answers}
-use Rattle.typebook.specs.Lines.{concluded, alikeTo, allAlike, isSum, childrenOf}
+use Rattle.typing.specs.Code.Shapes.{shapeAt, Small, Ready, Above, Answers}
+use Rattle.typebook.specs.Lines.{concluded, alikeTo, allAlike, isSum}
 use Rattle.declarations.specs.Declarations.{contextIn}
-use Rattle.typing.specs.Code.Verdicts.{leafOf, Settled, Found}
+use Rattle.typing.specs.Code.Verdicts.{settlement, leafOf, Settled, Found}
+use Rattle.typing.specs.Code.Conclude.{noneYet, oneMore, Concludes}
 use Rattle.typebook.proofs.Rows.{lastOf, children-law}
 use Rattle.typing.proofs.Leaves.{leaf-law}
 use Rattle.typing.proofs.Lying.{above-refl, above-trans, above-lower, shape-kept}
@@ -41,12 +43,6 @@ pub record Some (sum : Bool) (top : ℕ) (s : Sort) (ss : List Sort) (g : G.Gath
 pub data Gathers (sum : Bool) (top : ℕ) : List Sort → G.Gathered → List ℕ → Type 0 where
   begun : {g : G.Gathered} {st : List ℕ} → g .alike ≡ sum → g .free ≡ top → Small (g .first) → Gathers sum top [] g st
   going : {s : Sort} {ss : List Sort} {g : G.Gathered} {st : List ℕ} → Some sum top s ss g st → Gathers sum top (s ∷ ss) g st
-
--- what `gather` tells
-abbrev pub Told : ℕ → List ℕ → ℕ → G.Gathered → S.Sorted → G.Gathered → Type 0
-Told k st top g child r =
-    (k ≡ 0 → r ≡ record { first = child; latest = child; at = top; free = top + child .left + child .right; alike = g .alike })
-    × (k ≢ 0 → r ≡ record { first = g .first; latest = child; at = g .free; free = g .free; alike = g .alike && alikeTo (shapeAt st top (g .first)) (shapeAt st (g .free) child) })
 
 last-snoc : (s : Sort) (ss : List Sort) (t : Sort) → lastOf s (ss ++ (t ∷ [])) ≡ t
 last-snoc s [] t = refl
@@ -72,14 +68,14 @@ gathers-free (begun a f s) = record { small = s; from = omega arith; upTo = omeg
 gathers-free (going k) = let s = k .small in let f = k .free in record { small = s; from = omega arith; upTo = omega arith }
 
 gathers-more : {sum : Bool} {top k : ℕ} {ss : List Sort} {g r : G.Gathered} {child : S.Sorted} {st st′ : List ℕ} (T : Sort) → Gathers sum top ss g st → length ss ≡ k
-    → Above (g .free) st st′ → Small child → shapeAt st′ (g .free) child ≡ shapeOf T → Told k st′ top g child r → Gathers sum top (ss ++ (T ∷ [])) r st′
-unfolding allAlike
+    → Above (g .free) st st′ → Small child → shapeAt st′ (g .free) child ≡ shapeOf T → r ≡ oneMore k st′ top g child → Gathers sum top (ss ++ (T ∷ [])) r st′
+unfolding allAlike oneMore
 gathers-more {sum} {top} {child = child} {st′ = st′} T (begun al fr sm) n a small c t =
-    rw (t .0 (omega arith)) (going {s = T} {ss = []} (record { small = small; latest-small = small; first = rw fr at c; latest = rw fr at c; alike = al ∙ sym (and-true sum); free = refl; at = omega arith }))
-gathers-more {sum} {top} {child = child} {st′ = st′} T (going {s} {ss} {g} {st} h) n a small c t =
+    rw (t, eq-eqb _ _ (sym n)) (going {s = T} {ss = []} (record { small = small; latest-small = small; first = rw fr at c; latest = rw fr at c; alike = al ∙ sym (and-true sum); free = refl; at = omega arith }))
+gathers-more {sum} {top} {k = k} {child = child} {st′ = st′} T (going {s} {ss} {g} {st} h) n a small c t =
     let f = h .free in
-    let first : shapeAt st′ top (g .first) ≡ shapeOf s = shape-kept a top (g .first) (omega arith) ∙ h .first in
-    rw (t .1 (λ z. omega arith)) (going {s = s} {ss = ss ++ (T ∷ [])} (record { small = h .small; latest-small = small; first = first; latest = c ∙ ap shapeOf (sym (last-snoc s ss T)); alike = alike-more sum s ss T (h .alike) first c; free = f; at = omega arith }))
+    let first : shapeAt st′ top (g .first) ≡ shapeOf s = shape-kept (g .free) st st′ (a .below) top (g .first) (omega arith) ∙ h .first in
+    rw (t, ne-eqb _ _ (λ (z : k ≡ 0). omega arith)) (going {s = s} {ss = ss ++ (T ∷ [])} (record { small = h .small; latest-small = small; first = first; latest = c ∙ ap shapeOf (sym (last-snoc s ss T)); alike = alike-more sum s ss T (h .alike) first c; free = f; at = omega arith }))
 
 -- ---- the loop over the children
 pub record Walked (Γ : Context) (ws : List ℕ) (budget top head next k deepest : ℕ) (g : G.Gathered) (st₀ st : List ℕ) : Type 0 where
@@ -94,10 +90,10 @@ pub record Walked (Γ : Context) (ws : List ℕ) (budget top head next k deepest
   pub gathers : Gathers (isSum head) top list g st
 
 pub walked-none : {Γ : Context} {ws : List ℕ} {budget top head n : ℕ} {g : G.Gathered} {st : List ℕ} → arityOf (getD ws 0 0) ≡ Children n → 0 < budget
-    → g ≡ record { first = plain; latest = plain; at = top; free = top; alike = isSum head } → Walked Γ ws budget top head 1 0 0 g st st
+    → g ≡ noneYet head top → Walked Γ ws budget top head 1 0 0 g st st
 walked-none {Γ} {ws} {top = top} {head = head} {st = st} wants h e =
     let s = some-word ws wants in
-    rw e (record { list = []; passed = passed-none Γ ws; long = refl; inside = omega arith; near = omega arith; two = λ z. absurd (z refl); shallow = h; kept = above-refl top st; gathers = begun {g = record { first = plain; latest = plain; at = top; free = top; alike = isSum head }} refl refl (omega arith, omega arith) })
+    rw e (record { list = []; passed = passed-none Γ ws; long = refl; inside = omega arith; near = omega arith; two = λ z. absurd (z refl); shallow = h; kept = above-refl top st; gathers = begun {g = noneYet head top} refl refl (omega arith, omega arith) })
 
 module _ {Γ : Context} {ws : List ℕ} {budget top head next k deepest : ℕ} {g : G.Gathered} {st₀ st : List ℕ} (w : Walked Γ ws budget top head next k deepest g st₀ st) where
   pub free-at : Free top g
@@ -107,7 +103,7 @@ module _ {Γ : Context} {ws : List ℕ} {budget top head next k deepest : ℕ} {
     pub child-inside : next + child .size ≤ length ws
     child-inside = let p = part-length (drop next ws) 0 in let z = s .size in let i = w .inside in let d = length-drop next ws in omega arith
 
-    pub walked-more : Above (g .free) st st′ → {r : G.Gathered} → Told k st′ top g (child .sorted) r → {d : ℕ} → d ≡ max deepest (child .depth)
+    pub walked-more : Above (g .free) st st′ → {r : G.Gathered} → r ≡ oneMore k st′ top g (child .sorted) → {d : ℕ} → d ≡ max deepest (child .depth)
         → Walked Γ ws budget top head (next + child .size) (k + 1) d r st₀ st′
     walked-more a t e =
         let c = first-tree (drop next ws) (s .whole) in
@@ -136,10 +132,6 @@ module _ {Γ : Context} {ws : List ℕ} {budget top head next k deepest : ℕ} {
       go (begun a f m) e = absurd (z (sym e))
       go (going m) e = let f = free-at .upTo in let a = m .at in record { room = omega arith; more = omega arith; long = u; first = m .small; latest = m .latest-small }
 
--- what `conclude` promises
-abbrev pub Concludes : ℕ → ℕ → ℕ → G.Gathered → List ℕ → O.Outcome → List ℕ → Type 0
-Concludes head n top g st r st′ = Answers (childrenOf head n (shapeAt st top (g .first)) (shapeAt st (g .at) (g .latest)) (g .alike)) r top st st′
-
 all-by : (Γ : Context) (w : ℕ) {head top n : ℕ} (l : Label) {ss : List Sort} {g : G.Gathered} {st st′ : List ℕ} {o : O.Outcome} → Gathers (isSum head) top ss g st → length ss ≡ n → n ≢ 0
     → head ≡ w / 256 → read w ≡ labelled l n → Concludes head n top g st o st′ → Answers (concluded (conclude Γ l ss)) o top st st′
 all-by Γ w l (begun al fr sm) n z h r c = absurd (z (sym n))
@@ -147,7 +139,7 @@ all-by Γ w l (going {s} {ss} k) e z h r c = rw (children-law w l s ss (rw (← 
 
 pub walked-all : {Γ : Context} {ws : List ℕ} {budget top head next k deepest n : ℕ} {g : G.Gathered} {st₀ st st′ : List ℕ} (w : Walked Γ ws budget top head next k deepest g st₀ st)
     → arityOf (getD ws 0 0) ≡ Children n → k ≡ n → n ≢ 0 → head ≡ getD ws 0 0 / 256 → {o : O.Outcome} → Concludes head n top g st o st′ → {r : Answer.Verdict}
-    → r ≡ record { typed = o .typed; at = 0; size = next; depth = deepest + 1; sorted = o .sorted } → Found Γ ws budget top r st₀ st′
+    → r ≡ settlement next (deepest + 1) o → Found Γ ws budget top r st₀ st′
 walked-all {Γ} {ws} {n = n} w wants all z h c is =
     let q = read-children (getD ws 0 0) n wants in
     let f = settles (w .passed) (w .shallow) (q .0) (rw all (q .1)) (some-word ws wants) (all-by Γ (getD ws 0 0) (q .0) (w .gathers) (w .long ∙ all) z h (q .1) c) is in
@@ -155,7 +147,7 @@ walked-all {Γ} {ws} {n = n} w wants all z h c is =
 
 -- a head without children
 pub leaf-found : {ws : List ℕ} {budget top n : ℕ} {st st′ : List ℕ} (ds : List ℕ) → arityOf (getD ws 0 0) ≡ Children n → n ≡ 0 → 0 < budget → {o : O.Outcome}
-    → Answers (leafOf ds (getD ws 0 0)) o top st st′ → {r : Answer.Verdict} → r ≡ record { typed = o .typed; at = 0; size = 1; depth = 1; sorted = o .sorted } → Found (contextIn ds) ws budget top r st st′
+    → Answers (leafOf ds (getD ws 0 0)) o top st st′ → {r : Answer.Verdict} → r ≡ settlement 1 1 o → Found (contextIn ds) ws budget top r st st′
 leaf-found {ws} {n} ds wants z b a is =
     let q = read-children (getD ws 0 0) n wants in
     let e : read (getD ws 0 0) ≡ labelled (q .0) 0 = q .1 ∙ ap (labelled (q .0)) z in

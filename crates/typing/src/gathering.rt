@@ -5,15 +5,12 @@ use crate::sorts::are_alike;
 use term::heads::Class;
 use typebook::is_sum;
 ghost use mathlib.Core.Path.{_≡_};
-ghost use mathlib.Core.Logic.{_≢_};
-ghost use mathlib.Core.Bool.{_&&_};
-ghost use Prim.Native.Nat.{_+_};
-ghost use Rattle.typing.specs.Code.Shapes.{shapeAt, Small, Room, plain};
-ghost use Rattle.typebook.specs.Lines.{isSum, alikeTo};
+ghost use Rattle.typing.specs.Code.Shapes.{Small, Room};
+ghost use Rattle.typing.specs.Code.Conclude.{noneYet, oneMore};
 
 // Before the first child, whose words go to `top`.
 pub fn none_yet(head: usize, top: usize) -> Gathered
-    ensures { λ r. ⌜ r ≡ record { first = plain; latest = plain; at = top; free = top; alike = isSum head } ⌝ }
+    ensures { λ r. ⌜ r ≡ noneYet head top ⌝ }
 {
     let scalar = Sorted {
         class: Class::Scalar,
@@ -32,7 +29,7 @@ pub fn none_yet(head: usize, top: usize) -> Gathered
 // One child more, of which `k` came before. Its words stand where the next one's were to go.
 pub fn gather(k: usize, stack: &[u16], top: usize, g: Gathered, child: Sorted) -> Gathered
     requires { ⌜ Room top (now stack) × Room (g .free) (now stack) × Small (g .first) × Small child ⌝ }
-    ensures { λ r. ⌜ (k ≡ 0 → r ≡ record { first = child; latest = child; at = top; free = top + child .left + child .right; alike = g .alike }) × (k ≢ 0 → r ≡ record { first = g .first; latest = child; at = g .free; free = g .free; alike = g .alike && alikeTo (shapeAt (now (stack .entry)) top (g .first)) (shapeAt (now (stack .entry)) (g .free) child) }) ⌝ }
+    ensures { λ r. ⌜ r ≡ oneMore k (now (stack .entry)) top g child ⌝ }
 {
     if k == 0 {
         return Gathered {

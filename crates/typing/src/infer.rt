@@ -17,7 +17,7 @@ ghost use Prim.Native.Nat.{_+_, _≤_};
 ghost use lib.ListN.{length};
 ghost use Rattle.declarations.specs.Declarations.{contextIn, goodDeclarations};
 ghost use Rattle.typing.specs.Code.Shapes.{Room, Answers};
-ghost use Rattle.typing.specs.Code.Verdicts.{refusal, leafOf, need, Found};
+ghost use Rattle.typing.specs.Code.Verdicts.{refusal, settlement, leafOf, need, Found};
 
 // What typing finds of a part: its number of words, its depth and its sort, or the offset of the first untyped part.
 pub struct Verdict {
@@ -45,7 +45,7 @@ fn refused(at: usize) -> Verdict
 }
 
 fn settled(size: usize, depth: usize, outcome: Outcome) -> Verdict
-    ensures { λ r. ⌜ r ≡ record { typed = outcome .typed; at = 0; size = size; depth = depth; sorted = outcome .sorted } ⌝ }
+    ensures { λ r. ⌜ r ≡ settlement size depth outcome ⌝ }
 {
     let sorted = outcome.sorted;
     Verdict {

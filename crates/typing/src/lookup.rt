@@ -2,7 +2,6 @@
 use crate::sorts::Run;
 use crate::sorts::Sorted;
 use crate::sorts::put_run;
-use crate::sorts::run_at;
 use term::heads::Class;
 use words::word_at;
 ghost use mathlib.Core.Path.{_≡_};
@@ -34,8 +33,8 @@ fn bare(typed: bool) -> Entry
             left: 0,
             right: 0,
         },
-        left: run_at(0, 0),
-        right: run_at(0, 0),
+        left: Run { at: 0, len: 0 },
+        right: Run { at: 0, len: 0 },
     }
 }
 
@@ -52,8 +51,8 @@ fn basis_entry(ds: &[u16], a: usize) -> Entry
             left: n,
             right: 0,
         },
-        left: run_at(at + 1, n),
-        right: run_at(0, 0),
+        left: Run { at: at + 1, len: n },
+        right: Run { at: 0, len: 0 },
     }
 }
 
@@ -95,8 +94,11 @@ fn variable_entry(ds: &[u16], a: usize) -> Entry
     Entry {
         typed: true,
         sorted: sorted_by(word_at(ds, at), n, m),
-        left: run_at(at + 3, n),
-        right: run_at(at + 66, m),
+        left: Run { at: at + 3, len: n },
+        right: Run {
+            at: at + 66,
+            len: m,
+        },
     }
 }
 

@@ -5,21 +5,21 @@ use crate::sorts::Plan;
 use crate::sorts::Run;
 use crate::sorts::Sorted;
 use crate::sorts::put_run;
-use crate::sorts::run_at;
 use crate::sorts::same_runs;
 use typebook::are_fit;
 use typebook::class_by;
 use typebook::number;
 use typebook::rule_of;
 use words::append;
+use words::insert;
 ghost use mathlib.Core.Path.{_≡_};
 ghost use mathlib.Core.Bool.{_&&_};
 ghost use Prim.Native.Nat.{_/_, _≤_, _<_};
 ghost use lib.ListN.{length};
 ghost use Rattle.words.specs.Words.{laid, Added};
-ghost use Rattle.typing.specs.Code.Shapes.{shapeAt, runAt, Inside, Near, Ready, Answers};
-ghost use Rattle.typebook.specs.Lines.{ruleAt, met, sideOf, shortBoth, childrenOf};
-ghost use Rattle.typing.specs.Code.Conclude.{placeOf, sideSize, planOf, standing, sidesOf, Laying};
+ghost use Rattle.typing.specs.Code.Shapes.{shapeAt, runAt, Inside, Near, Ready};
+ghost use Rattle.typebook.specs.Lines.{ruleAt, met, sideOf, shortBoth};
+ghost use Rattle.typing.specs.Code.Conclude.{placeOf, sideSize, planOf, standing, sidesOf, Laying, Concludes};
 
 // Where one of the children's indices stands, by its digit.
 fn piece(k: u16, top: usize, g: Gathered) -> Run
@@ -29,25 +29,37 @@ fn piece(k: u16, top: usize, g: Gathered) -> Run
     let a = g.first;
     let b = g.latest;
     match k {
-        1 => run_at(top, a.left),
-        2 => run_at(top + a.left, a.right),
-        3 => run_at(g.at, b.left),
-        4 => run_at(g.at + b.left, b.right),
-        _ => run_at(top, 0),
+        1 => Run {
+            at: top,
+            len: a.left,
+        },
+        2 => Run {
+            at: top + a.left,
+            len: a.right,
+        },
+        3 => Run {
+            at: g.at,
+            len: b.left,
+        },
+        4 => Run {
+            at: g.at + b.left,
+            len: b.right,
+        },
+        _ => Run { at: top, len: 0 },
     }
 }
 
-// Whether the children are as the first digit asks.
+// Whether the children are as the first digit asks. 1 and 2 are the digits of the first's index that is to be the second's.
 fn meets(head: usize, stack: &[u16], top: usize, g: Gathered) -> bool
     requires { ⌜ Ready top g (now stack) ⌝ }
     ensures { λ r. ⌜ r ≡ met (ruleAt head / 4096) (shapeAt (now (stack .entry)) top (g .first)) (shapeAt (now (stack .entry)) (g .at) (g .latest)) (g .alike) ⌝ }
 {
     let test = rule_of(head) / 4096;
-    if test == 1 {
-        return same_runs(stack, piece(1, top, g), piece(3, top, g));
+    if test == 0 {
+        return true;
     }
-    if test == 2 {
-        return same_runs(stack, piece(2, top, g), piece(3, top, g));
+    if test < 3 {
+        return same_runs(stack, piece(test, top, g), piece(3, top, g));
     }
     if test == 3 {
         return g.alike;
@@ -148,15 +160,22 @@ fn stands(r: Run, at: usize) -> bool
     r.at == at
 }
 
-// Lays the indices of the result on the stack. Where they stand there already, nothing moves.
+// Lays the indices of the result on the stack. Where they stand there already, nothing moves; the factors of a product on the left alone (of indices, bases or kets) stand one behind the
+// other and move up by the word in front of them.
 fn lay(stack: &mut [u16], top: usize, p: Plan, g: Gathered)
     requires { ⌜ Laying (now stack) p top g ⌝ }
     ensures { λ _. ⌜ now (stack .exit) ≡ laid (now (stack .entry)) top (sidesOf (now (stack .entry)) p top g) ⌝ }
 {
     let left = p.left;
     let right = p.right;
-    if !p.product {
-        if stands(left, top) {
+    if stands(left, top) {
+        if p.product {
+            if left.len != 0 && right.len == 0 && g.at == top + left.len {
+                let b = g.latest;
+                insert(stack, top, 512, left.len + b.left);
+                return;
+            }
+        } else {
             if stands(right, top + left.len) {
                 return;
             }
@@ -171,7 +190,7 @@ fn lay(stack: &mut [u16], top: usize, p: Plan, g: Gathered)
 // What a head concludes of its `n` children, at least one. The first's words stand at `top`.
 pub fn conclude(head: usize, n: usize, stack: &mut [u16], top: usize, g: Gathered) -> Outcome
     requires { ⌜ Ready top g (now stack) ⌝ }
-    ensures { λ r. ⌜ Answers (childrenOf head n (shapeAt (now (stack .entry)) top (g .first)) (shapeAt (now (stack .entry)) (g .at) (g .latest)) (g .alike)) r top (now (stack .entry)) (now (stack .exit)) ⌝ }
+    ensures { λ r. ⌜ Concludes head n top g (now (stack .entry)) r (now (stack .exit)) ⌝ }
 {
     let p = plan(head, n, meets(head, stack, top, g), top, g);
     let sorted = p.sorted;

@@ -7,7 +7,6 @@ ghost use mathlib.Core.Path.{_≡_};
 ghost use Rattle.words.specs.Words.{sameWords, laid, Added};
 ghost use Rattle.typebook.specs.Lines.{alikeTo};
 ghost use Rattle.typing.specs.Code.Shapes.{shapeAt, runAt, Inside, Small, Room};
-ghost use Rattle.typing.specs.Code.Conclude.{runOf};
 
 // An index or a basis has its index on the left; a ket has its index on the left, a bra on the right, and an operator its rows on the left and its columns on the right, as
 // the matrix that each stands for.
@@ -49,12 +48,6 @@ pub struct Gathered {
     pub alike: bool,
 }
 
-pub fn run_at(at: usize, len: usize) -> Run
-    ensures { λ r. ⌜ r ≡ runOf at len ⌝ }
-{
-    Run { at, len }
-}
-
 // Lays a run over `out` from `to` on, and answers its end.
 pub fn put_run(out: &mut [u16], to: usize, ws: &[u16], r: Run) -> usize
     requires { ⌜ Inside r (now ws) ⌝ }
@@ -77,7 +70,7 @@ pub fn same_runs(stack: &[u16], p: Run, q: Run) -> bool
     same(&stack[from..end], &stack[other..last])
 }
 
-// Whether two sorts are the same.
+// Whether two sorts are the same. The words of the second index stand behind those of the first, so that both are compared at once.
 pub fn are_alike(stack: &[u16], top: usize, a: Sorted, at: usize, b: Sorted) -> bool
     requires { ⌜ Room top (now stack) × Room at (now stack) × Small a × Small b ⌝ }
     ensures { λ r. ⌜ r ≡ alikeTo (shapeAt (now (stack .entry)) top a) (shapeAt (now (stack .entry)) at b) ⌝ }
@@ -87,12 +80,18 @@ pub fn are_alike(stack: &[u16], top: usize, a: Sorted, at: usize, b: Sorted) -> 
     if number(class) != number(other) {
         return false;
     }
-    if !same_runs(stack, run_at(top, a.left), run_at(at, b.left)) {
+    if a.left != b.left {
         return false;
     }
     same_runs(
         stack,
-        run_at(top + a.left, a.right),
-        run_at(at + b.left, b.right),
+        Run {
+            at: top,
+            len: a.left + a.right,
+        },
+        Run {
+            at,
+            len: b.left + b.right,
+        },
     )
 }

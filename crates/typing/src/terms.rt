@@ -1,4 +1,5 @@
 // The typing of one term.
+use crate::infer::Verdict;
 use crate::infer::type_part;
 use crate::sorts::Sorted;
 use declarations::are_good;
@@ -10,14 +11,14 @@ use words::copy_words;
 ghost use mathlib.Core.Path.{_≡_};
 ghost use mathlib.Core.Bool.{true};
 ghost use Prim.Native.Nat.{_≤_};
-ghost use lib.ListN.{length, take, drop};
+ghost use lib.ListN.{length};
 ghost use Rattle.types.specs.Sorts.{Sort};
 ghost use Rattle.types.specs.TypeOf.{typed};
-ghost use Rattle.declarations.specs.Declarations.{goodDeclarations};
-ghost use Rattle.typing.specs.Answers.{sizesOf, refuse, typing, answerOf, typingOf};
+ghost use Rattle.declarations.specs.Declarations.{contextIn, goodDeclarations};
+ghost use Rattle.typing.specs.Answers.{sizesOf, refuse, answerOf, typingOf};
 ghost use Rattle.typebook.specs.Shapes.{shapeOf};
 ghost use Rattle.typing.specs.Code.Shapes.{shapeAt, Small};
-ghost use Rattle.typing.specs.Code.Verdicts.{need, typingIn};
+ghost use Rattle.typing.specs.Code.Verdicts.{Found, typingIn, kindOf};
 
 // The kind of a type, with the lengths of its indices.
 pub enum Kind {
@@ -97,14 +98,33 @@ fn refused_with(code: usize, at: usize) -> Typing
     }
 }
 
-// A type whose indices are the first `n` words of the stack and the `m` words behind them.
-fn accepted(size: usize, depth: usize, kind: Kind, stack: &[u16], n: usize, m: usize) -> Typing
-    requires { ⌜ (n ≤ 63) × (m ≤ 63) × (126 ≤ length (now stack)) ⌝ }
-    ensures { λ r. ⌜ r ≡ typing size depth kind (take n (now (stack .entry))) (take m (drop n (now (stack .entry)))) ⌝ }
+// A kind by the number of its class.
+fn kind_of(k: u8, rows: usize, columns: usize) -> Kind
+    ensures { λ r. ⌜ r ≡ kindOf k rows columns ⌝ }
 {
+    match k {
+        4 => Kind::Ket(rows),
+        5 => Kind::Bra(columns),
+        6 => Kind::Operator(rows, columns),
+        _ => Kind::Scalar,
+    }
+}
+
+// A sort is a type unless it is an index or a basis. Its words stand at the bottom of the stack.
+fn answered(size: usize, depth: usize, stack: &[u16], s: Sorted) -> Typing
+    requires { ⌜ Small s × (126 ≤ length (now stack)) ⌝ }
+    ensures { λ r. ⌜ ((S : Sort) → shapeAt (now (stack .entry)) 0 s ≡ shapeOf S → r ≡ answerOf size depth (typed S)) ⌝ }
+{
+    let class = s.class;
+    let k = number(class);
+    if k < 3 {
+        return refused_with(11, 0);
+    }
+    let n = s.left;
+    let m = s.right;
+    let end = n + m;
     let mut rows = [0u16; 63];
     let mut columns = [0u16; 63];
-    let end = n + m;
     copy_words(&mut rows, &stack[..n]);
     copy_words(&mut columns, &stack[n..end]);
     Typing {
@@ -115,51 +135,43 @@ fn accepted(size: usize, depth: usize, kind: Kind, stack: &[u16], n: usize, m: u
         length: size,
         depth,
         of: TermType {
-            kind,
+            kind: kind_of(k, n, m),
             rows,
             columns,
         },
     }
 }
 
-// A sort is a type unless it is an index or a basis. Its words stand at the bottom of the stack.
-fn answered(size: usize, depth: usize, stack: &[u16], s: Sorted) -> Typing
-    requires { ⌜ Small s × (126 ≤ length (now stack)) ⌝ }
-    ensures { λ r. ⌜ ((S : Sort) → shapeAt (now (stack .entry)) 0 s ≡ shapeOf S → r ≡ answerOf size depth (typed S)) ⌝ }
+// What the walk finds of some words, and the words of its sort at the bottom of the stack, which is large enough for a term of ten. To clear a large one takes longer than to type a
+// term of few words, so that a larger term has its own.
+fn walk(ds: &[u16], ws: &[u16], stack: &mut [u16]) -> Verdict
+    requires { ⌜ (goodDeclarations (now ds) ≡ true) × (length (now ws) ≤ 4096) × (length (now stack) ≡ 756) ⌝ }
+    ensures { λ r. ⌜ Found (contextIn (now (ds .entry))) (now (ws .entry)) 64 0 r (now (stack .entry)) (now (stack .exit)) ⌝ }
 {
-    let class = s.class;
-    let rows = s.left;
-    let columns = s.right;
-    let k = number(class);
-    if k == 3 {
-        return accepted(size, depth, Kind::Scalar, stack, rows, columns);
+    let n = ws.len();
+    if n <= 10 {
+        return type_part(ds, ws, stack, 0, 64);
     }
-    if k == 4 {
-        return accepted(size, depth, Kind::Ket(rows), stack, rows, columns);
+    if n <= 30 {
+        let mut larger = [0u16; 2016];
+        let found = type_part(ds, ws, &mut larger, 0, 64);
+        copy_words(stack, &larger[..126]);
+        return found;
     }
-    if k == 5 {
-        return accepted(size, depth, Kind::Bra(columns), stack, rows, columns);
-    }
-    if k == 6 {
-        return accepted(
-            size,
-            depth,
-            Kind::Operator(rows, columns),
-            stack,
-            rows,
-            columns,
-        );
-    }
-    refused_with(11, 0)
+    let mut larger = [0u16; 8190];
+    let found = type_part(ds, ws, &mut larger, 0, 64);
+    copy_words(stack, &larger[..126]);
+    found
 }
 
 // What all of some words are found to be, in one walk where they are typed. The declarations were tested.
-fn typed_on(ds: &[u16], ws: &[u16], stack: &mut [u16]) -> Typing
-    requires { ⌜ (goodDeclarations (now ds) ≡ true) × (length (now ws) ≤ 4096) × (need (length (now ws)) 64 ≤ length (now stack)) × (length (now stack) ≤ 8190) ⌝ }
+fn typed_in(ds: &[u16], ws: &[u16]) -> Typing
+    requires { ⌜ (goodDeclarations (now ds) ≡ true) × (length (now ws) ≤ 4096) ⌝ }
     ensures { λ r. ⌜ r ≡ typingIn (now (ds .entry)) (now (ws .entry)) ⌝ }
 {
     let n = ws.len();
-    let found = type_part(ds, ws, stack, 0, 64);
+    let mut stack = [0u16; 756];
+    let found = walk(ds, ws, &mut stack);
     if found.typed {
         if found.size != n {
             return refused_with(8, 0);
@@ -168,7 +180,7 @@ fn typed_on(ds: &[u16], ws: &[u16], stack: &mut [u16]) -> Typing
             return refused_with(8, 0);
         }
         let sorted = found.sorted;
-        return answered(n, found.depth, stack, sorted);
+        return answered(n, found.depth, &stack, sorted);
     }
     if !is_term(names_of(ds), ws, n) {
         return refused_with(8, 0);
@@ -189,19 +201,5 @@ pub fn type_term(ds: &[u16], ws: &[u16], n: usize) -> Typing
     if 4096 < n {
         return refused_with(8, 0);
     }
-    // to clear a large stack would take longer than to type a term of few words, which needs but a small one
-    if n <= 6 {
-        let mut stack = [0u16; 504];
-        return typed_on(ds, &ws[..n], &mut stack);
-    }
-    if n <= 14 {
-        let mut stack = [0u16; 1008];
-        return typed_on(ds, &ws[..n], &mut stack);
-    }
-    if n <= 30 {
-        let mut stack = [0u16; 2016];
-        return typed_on(ds, &ws[..n], &mut stack);
-    }
-    let mut stack = [0u16; 8190];
-    typed_on(ds, &ws[..n], &mut stack)
+    typed_in(ds, &ws[..n])
 }

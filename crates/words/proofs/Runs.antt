@@ -1,7 +1,7 @@
 -- Runs of words: what clearing, copying and comparing them come to, one word at a time and as a whole.
 use mathlib.Core.Path.{_≡_, refl, sym, _∙_, ap}
 use mathlib.Core.Logic.{_≢_}
-use mathlib.Core.Bool.{Bool, true, false, cond, _&&_, and-eq-true-iff}
+use mathlib.Core.Bool.{Bool, true, false, cond, _&&_, and-assoc, and-eq-true-iff}
 use mathlib.Core.List.{List, [], _∷_, _++_, append-assoc, append-nil, head-eq-of-cons-eq, tail-eq-of-cons-eq}
 use Prim.Native.Nat.{ℕ, zero, suc, _+_, _-_, _≤_, _<_, min}
 use native.Mathlib.Nat.{zero-add}
@@ -10,7 +10,7 @@ use native.Mathlib.Decide.{decLe}
 use native.Mathlib.Omega.{arith}
 use lib.Dec.{eqb}
 use lib.ListN.{length, take, drop, replicate, getD, set, length-append, length-take, length-drop, length-set, length-replicate, drop-of-length-le}
-use lib.Seq.{take-all, take-at, take-suc-set, length-take-le, drop-nil, drop-drop, drop-append-add, paste-suc}
+use lib.Seq.{take-all, take-at, take-suc-set, length-take-le, getD-take, getD-at, drop-nil, drop-cons, drop-drop, drop-append-add, paste-suc}
 use borrow.Author.Tests.{eqb-true, eqb-false, eq-eqb, ne-eqb, le-leb, lt-leb}
 use Rattle.words.specs.Words.{cleared, overlaid, agreeing, sameWords, laid, Added}
 
@@ -70,6 +70,12 @@ overlaid-is (d ∷ dst) (s ∷ src) (suc i) h = cc (overlaid-is dst src i (omega
 -- one word more, copied over the first that is not yet
 pub copied-more : (dst src : List ℕ) (i : ℕ) → i < length dst → i < length src → set (take i src ++ drop i dst) i (getD src i 0) ≡ take (i + 1) src ++ drop (i + 1) dst
 copied-more dst src i h k = rw add-one (simp zero-add at (paste-suc dst 0 src i 0 (omega arith) k))
+
+-- a word in front of the first n, which move up by one: the word that is read is the next one to be written
+pub first-next : (ws : List ℕ) (word n i : ℕ) → i < length ws → i < n → getD (take i (word ∷ take n ws) ++ drop i ws) i 0 ≡ getD (word ∷ take n ws) (i + 1) 0
+first-next ws word n i h k =
+    let l = length-take n ws in
+    rw (add-one, drop-cons ws i 0 h, getD-at (take i (word ∷ take n ws)) (getD ws i 0) (drop (suc i) ws) 0 i (length-take-le i (word ∷ take n ws) (omega arith))) (sym (getD-take n ws i 0 k))
 
 -- ---- comparing
 -- the ways in which two runs agree for n words and no further
@@ -153,6 +159,14 @@ same-more i xs ys h k = rw add-one (go i xs ys h k)
     go zero (x ∷ xs) (y ∷ ys) h k = refl
     go (suc i) (x ∷ xs) (y ∷ ys) h k = rw (go i xs ys (omega arith) (omega arith)) (swap (eqb x y) (eqb (getD xs i 0) (getD ys i 0)) (sameWords (take i xs) (take i ys)))
 
+-- two runs that begin with as many words, at once
+pub same-both : (xs zs ys ws : List ℕ) → length xs ≡ length zs → sameWords (xs ++ ys) (zs ++ ws) ≡ (sameWords xs zs && sameWords ys ws)
+unfolding sameWords
+same-both [] [] ys ws e = refl
+same-both [] (z ∷ zs) ys ws e = absurd (omega arith)
+same-both (x ∷ xs) [] ys ws e = absurd (omega arith)
+same-both (x ∷ xs) (z ∷ zs) ys ws e = rw (same-both xs zs ys ws (omega arith)) (sym (and-assoc (eqb x z) (sameWords xs zs) (sameWords ys ws)))
+
 -- runs of other lengths are not the same
 pub same-lengths : (xs ys : List ℕ) → length xs ≢ length ys → sameWords xs ys ≡ false
 unfolding sameWords
@@ -183,6 +197,18 @@ laid-copied out at src ys n h k e =
     let l = length-drop at out in
     let z : length (drop at out) ≤ n = omega arith in
     rw (laid-in out at src h, e, take-all n (drop at out) (omega arith), take-all (length (drop at out)) src (omega arith), drop-of-length-le (drop at out) z, append-nil, drop-drop (length src) at out)
+
+-- a word in front of n others, which move up by one: nothing where no word is behind them
+module _ (ws : List ℕ) (at word n : ℕ) where
+  pub no-room : length ws ≤ at + n → laid ws at (word ∷ take n (drop at ws)) ≡ ws
+  no-room h = let l = length-take n (drop at ws) in let m = length-drop at ws in laid-out ws at (word ∷ take n (drop at ws)) (omega arith)
+
+  pub laid-first : (ys : List ℕ) (m : ℕ) → at + n < length ws → m ≡ length ws - at → ys ≡ overlaid (take m (drop at ws)) (word ∷ take n (take m (drop at ws)))
+      → take at ws ++ (ys ++ drop m (drop at ws)) ≡ laid ws at (word ∷ take n (drop at ws))
+  laid-first ys m h z e =
+      let l = length-take n (drop at ws) in
+      let k = length-drop at ws in
+      laid-copied ws at (word ∷ take n (drop at ws)) ys m (omega arith) z (e ∙ ap (λ (vs : List ℕ). overlaid (take m (drop at ws)) (word ∷ take n vs)) (rw z (to-end ws at)))
 
 -- ---- appending
 -- a run behind a run

@@ -1,9 +1,10 @@
 // Runs of words as such: clearing, copying and comparing them.
 ghost use mathlib.Core.Path.{_≡_};
 ghost use mathlib.Core.Bool.{_&&_};
+ghost use mathlib.Core.List.{_∷_};
 ghost use Prim.Native.Nat.{_+_, min};
 ghost use lib.Dec.{eqb};
-ghost use lib.ListN.{length, getD};
+ghost use lib.ListN.{length, take, drop, getD};
 ghost use Rattle.words.specs.Words.{cleared, overlaid, agreeing, sameWords, laid};
 
 // The word at an offset, and 0 where there is none.
@@ -44,6 +45,20 @@ pub fn copy_words(dst: &mut [u16], src: &[u16]) -> usize
         i += 1;
     }
     n
+}
+
+// Puts a word in front of the first `n`, which move up by one; the word behind them goes.
+fn put_first(ws: &mut [u16], word: u16, n: usize)
+    ensures { λ _. ⌜ now (ws .exit) ≡ overlaid (now (ws .entry)) (word ∷ take n (now (ws .entry))) ⌝ }
+{
+    let mut carried = word;
+    let mut i = 0;
+    while i < ws.len() && i <= n {
+        let next = ws[i];
+        ws[i] = carried;
+        carried = next;
+        i += 1;
+    }
 }
 
 // The first offset at which two runs differ; the shorter's length where it is a prefix of the other.
@@ -99,4 +114,17 @@ pub fn append(out: &mut [u16], at: usize, src: &[u16]) -> usize
     }
     copy_words(&mut out[at..], src);
     at + src.len()
+}
+
+// Puts a word at an offset, in front of the `n` words from there on, which move up by one; the word behind them goes. Where there is none behind them it changes nothing.
+pub fn insert(ws: &mut [u16], at: usize, word: u16, n: usize)
+    ensures { λ _. ⌜ now (ws .exit) ≡ laid (now (ws .entry)) at (word ∷ take n (drop at (now (ws .entry)))) ⌝ }
+{
+    if ws.len() <= at {
+        return;
+    }
+    if ws.len() - at <= n {
+        return;
+    }
+    put_first(&mut ws[at..], word, n);
 }

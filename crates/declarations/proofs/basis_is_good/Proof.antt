@@ -5,7 +5,7 @@ use native.Mathlib.Omega.{arith}
 use borrow.Author.Needs.{needs}
 use borrow.Author.Tests.{le-leb, lt-leb}
 use Rattle.declarations.specs.Declarations.{goodBasis}
-use Rattle.declarations.proofs.Entries.{taken-is}
+use native.Mathlib.Nat.{add-sub-cancel-left}
 use Rattle.declarations.proofs.basis_is_good.Statement.{statement}
 use Rattle.declarations.proofs.basis_is_good.Tie as tie
 
@@ -57,7 +57,7 @@ is-index-requires c κs = search needs
 
 returns-2 : tie.Need-returns-2
 unfolding goodBasis
-returns-2 c = c .is-index .ensures ∙ rw (le-leb _ _ (c .before .before .before .if1 .left), taken-is)
+returns-2 c = c .is-index .ensures ∙ rw (le-leb _ _ (c .before .before .before .if1 .left), add-sub-cancel-left)
 
 pub basis-is-good-spec : {M : Type 1} → statement M
 basis-is-good-spec =

@@ -5,7 +5,7 @@ use native.Mathlib.Omega.{arith}
 use borrow.Author.Needs.{needs}
 use borrow.Author.Tests.{le-leb, lt-leb}
 use Rattle.declarations.specs.Declarations.{goodVariable}
-use Rattle.declarations.proofs.Entries.{taken-is}
+use native.Mathlib.Nat.{add-sub-cancel-left}
 use Rattle.declarations.proofs.variable_is_good.Statement.{statement}
 use Rattle.declarations.proofs.variable_is_good.Tie as tie
 
@@ -100,7 +100,7 @@ is-variable-requires c κs = search needs
 
 returns-3 : tie.Need-returns-3
 unfolding goodVariable
-returns-3 c = c .is-variable .ensures ∙ rw (le-leb _ _ (c .before .before .before .before .before .before .if1 .left), le-leb _ _ (c .before .before .before .before .before .if2 .left)) (simp taken-is)
+returns-3 c = c .is-variable .ensures ∙ rw (le-leb _ _ (c .before .before .before .before .before .before .if1 .left), le-leb _ _ (c .before .before .before .before .before .if2 .left)) (simp add-sub-cancel-left)
 
 pub variable-is-good-spec : {M : Type 1} → statement M
 variable-is-good-spec =

@@ -4,11 +4,13 @@ use mathlib.Core.List.{List, [], _∷_, _++_}
 use Prim.Native.Nat.{ℕ, _+_, _/_, _%_, _≤_}
 use lib.Dec.{eqb}
 use lib.ListN.{length, getD}
-use Rattle.typebook.specs.Lines.{ruleAt, fitted, classBy, isProduct, sideOf, shortBoth}
+use Rattle.typebook.specs.Lines.{ruleAt, alikeTo, isSum, fitted, classBy, isProduct, sideOf, shortBoth, childrenOf}
 use Rattle.typing.specs.declared.sorts.Plan as P
 use Rattle.typing.specs.declared.sorts.Run as R
+use Rattle.typing.specs.declared.sorts.Sorted as S
+use Rattle.typing.specs.declared.sorts.Outcome as O
 use Rattle.typing.specs.declared.sorts.Gathered as G
-use Rattle.typing.specs.Code.Shapes.{runAt, Inside, Ready}
+use Rattle.typing.specs.Code.Shapes.{shapeAt, runAt, plain, Inside, Ready, Answers}
 
 abbrev pub runOf : ℕ → ℕ → R.Run
 runOf at n = record { at = at; len = n }
@@ -30,21 +32,41 @@ placeOf k top g =
 unfoldable pub sideSize : Bool → ℕ → ℕ → ℕ
 sideSize p n m = cond p (cond (eqb n 0) 0 (n + m + 1)) n
 
+-- ---- a part's children as they come: before the first one, and one more, behind k others
+abbrev pub noneYet : ℕ → ℕ → G.Gathered
+noneYet h top = record { first = plain; latest = plain; at = top; free = top; alike = isSum h }
+
+unfoldable pub oneMore : ℕ → List ℕ → ℕ → G.Gathered → S.Sorted → G.Gathered
+oneMore k st top g child =
+    cond (eqb k 0) (record { first = child; latest = child; at = top; free = top + child .left + child .right; alike = g .alike })
+    (record { first = g .first; latest = child; at = g .free; free = g .free; alike = g .alike && alikeTo (shapeAt st top (g .first)) (shapeAt st (g .free) child) })
+
 -- ---- what is made of n children, in numbers, where they meet as the line asks or not
+-- the line of a head says whether indices are multiplied, and where the sides stand, or their first factors
+abbrev pub product : ℕ → Bool
+product rule = isProduct (rule / 4096)
+
+abbrev pub leftAt : ℕ → ℕ → G.Gathered → R.Run
+leftAt rule top g = placeOf (rule / 16 % 16) top g
+
+abbrev pub rightAt : ℕ → ℕ → G.Gathered → R.Run
+rightAt rule top g = placeOf (rule % 16) top g
+
+abbrev pub rowsOf : ℕ → ℕ → G.Gathered → ℕ
+rowsOf rule top g = sideSize (product rule) (leftAt rule top g .len) (g .latest .left)
+
+abbrev pub columnsOf : ℕ → ℕ → G.Gathered → ℕ
+columnsOf rule top g = sideSize (product rule) (rightAt rule top g .len) (g .latest .right)
+
 unfoldable pub planOf : ℕ → ℕ → Bool → ℕ → G.Gathered → P.Plan
 planOf h n m top g =
     let r = ruleAt h in
-    let p = isProduct (r / 4096) in
-    let left = placeOf (r / 16 % 16) top g in
-    let right = placeOf (r % 16) top g in
-    let rows = sideSize p (left .len) (g .latest .left) in
-    let columns = sideSize p (right .len) (g .latest .right) in
     record {
-      typed = fitted h n (g .first .class) (g .latest .class) && (m && shortBoth p rows columns);
-      sorted = record { class = classBy (r / 256 % 16) h (g .first .class) (g .latest .class); left = rows; right = columns };
-      product = p;
-      left = left;
-      right = right;
+      typed = fitted h n (g .first .class) (g .latest .class) && (m && shortBoth (product r) (rowsOf r top g) (columnsOf r top g));
+      sorted = record { class = classBy (r / 256 % 16) h (g .first .class) (g .latest .class); left = rowsOf r top g; right = columnsOf r top g };
+      product = product r;
+      left = leftAt r top g;
+      right = rightAt r top g;
     }
 
 -- words stand where they are wanted, so far as there are any
@@ -61,3 +83,7 @@ pub record Laying (st : List ℕ) (p : P.Plan) (top : ℕ) (g : G.Gathered) : Ty
   pub left-inside : Inside (p .left) st
   pub right-inside : Inside (p .right) st
   pub few : length (sidesOf st p top g) ≤ 126
+
+-- ---- what a head concludes of its n children: the rule on their shapes
+abbrev pub Concludes : ℕ → ℕ → ℕ → G.Gathered → List ℕ → O.Outcome → List ℕ → Type 0
+Concludes h n top g st r st′ = Answers (childrenOf h n (shapeAt st top (g .first)) (shapeAt st (g .at) (g .latest)) (g .alike)) r top st st′

@@ -10,8 +10,11 @@ use Rattle.term.specs.declared.heads.Class.the-variants.{Index, Basis, Scalar, 
 use Rattle.term.specs.Parts.{parse, part, treeIn}
 use Rattle.term.specs.Terms.{partDepth, termWords}
 use Rattle.typing.specs.declared.sorts.Sorted as S
+use Rattle.typing.specs.declared.sorts.Outcome as C
 use Rattle.typing.specs.declared.lookup.Entry as E
 use Rattle.typing.specs.declared.infer.Verdict as Answer
+use Rattle.typing.specs.declared.terms.Kind as K
+use Rattle.typing.specs.declared.terms.Kind.the-variants as Kinds
 use Rattle.typing.specs.declared.terms.Typing as A
 use Rattle.typing.specs.Answers.{refuse, answerOf}
 use Rattle.typebook.specs.Shapes.{Shape, shape, shapeOf, given}
@@ -24,6 +27,10 @@ use Rattle.types.specs.TypeOf.{typed, untyped, typeOf}
 -- an untyped part, by its offset
 abbrev pub refusal : ℕ → Answer.Verdict
 refusal k = record { typed = false; at = k; size = 0; depth = 0; sorted = plain }
+
+-- a part of so many words and so deep, by what is concluded of it
+abbrev pub settlement : ℕ → ℕ → C.Outcome → Answer.Verdict
+settlement n d o = record { typed = o .typed; at = 0; size = n; depth = d; sorted = o .sorted }
 
 -- ---- a head without children, by its word: a name as declared, or the scalar 0 or 1
 unfoldable pub leafOf : List ℕ → ℕ → Option Shape
@@ -92,3 +99,7 @@ pub record Found (Γ : Context) (ws : List ℕ) (budget top : ℕ) (r : Answer.V
 unfoldable pub typingIn : List ℕ → List ℕ → A.Typing
 unfolding termWords namesIn partDepth typeOf contextIn treeIn answerOf refuse
 typingIn ds ws = cond (termWords (namesIn ds) ws) (answerOf (length ws) (partDepth ws 0) (typeOf (contextIn ds) 0 (treeIn (parse ws)))) (refuse 8 0)
+
+-- a kind by the number of its class
+abbrev pub kindOf : ℕ → ℕ → ℕ → K.Kind
+kindOf k rows columns = cond (eqb k 4) (Kinds.Ket rows) (cond (eqb k 5) (Kinds.Bra columns) (cond (eqb k 6) (Kinds.Operator rows columns) Kinds.Scalar))

@@ -1,8 +1,6 @@
 -- The run of the length that is declared.
+use native.Mathlib.Nat.{add-sub-cancel-left}
 use borrow.Author.Needs.{needs}
-use lib.ListN.{getD}
-use Rattle.declarations.proofs.Entries.{taken-is}
-use Rattle.step.proofs.Added.{added-as}
 use Rattle.step.proofs.shapes.append_declared.Statement.{statement}
 use Rattle.step.proofs.shapes.append_declared.Tie as tie
 
@@ -25,7 +23,7 @@ same-length : tie.Need-same-length
 same-length c = search needs
 
 returns : tie.Need-returns
-returns c = let args = c .before .before .before .before .before .before .before .args in added-as (taken-is (args .ds .now) (args .from) (getD (args .ds .now) (args .n) 0)) (c .before .before .append-run .ensures)
+returns c = rw add-sub-cancel-left at (c .before .before .append-run .ensures)
 
 pub append-declared-spec : {M : Type 1} → statement M
 append-declared-spec =

@@ -1,6 +1,7 @@
 -- The first child begins; each further one is compared with it, unless one differed already.
-use mathlib.Core.Path.{refl}
 use borrow.Author.Needs.{needs}
+use borrow.Author.Tests.{eq-eqb, ne-eqb}
+use Rattle.typing.specs.Code.Conclude.{oneMore}
 use Rattle.typing.proofs.gathering.gather.Statement.{statement}
 use Rattle.typing.proofs.gathering.gather.Tie as tie
 
@@ -11,16 +12,19 @@ add-t10 : tie.Need-add-t10
 add-t10 c = search needs
 
 returns : tie.Need-returns
-returns c = (λ z. refl, λ h. absurd (h (c .before .before .if1 .taken)))
+unfolding oneMore
+returns c = rw (eq-eqb _ _ (c .before .before .if1 .taken))
 
 are-alike-requires : tie.Need-are-alike-requires
 are-alike-requires c κs = search needs
 
 returns-2 : tie.Need-returns-2
-returns-2 c = (λ z. absurd (c .before .before .before .if1 .left z), λ h. rw (c .before .if2 .taken, c .are-alike .ensures))
+unfolding oneMore
+returns-2 c = rw (ne-eqb _ _ (c .before .before .before .if1 .left), c .before .if2 .taken, c .are-alike .ensures)
 
 returns-3 : tie.Need-returns-3
-returns-3 c = (λ z. absurd (c .before .before .if1 .left z), λ h. rw (c .if2 .left))
+unfolding oneMore
+returns-3 c = rw (ne-eqb _ _ (c .before .before .if1 .left), c .if2 .left)
 
 pub gather-spec : {M : Type 1} → statement M
 gather-spec = tie.close (tie.spec add-t9 add-t10 returns are-alike-requires returns-2 returns-3)

@@ -18,28 +18,12 @@ word-at-requires c κs = search needs
 cast-n : tie.Need-cast-n
 cast-n c = search needs
 
-add-run-at : tie.Need-add-run-at
-add-run-at c = omega (arith, basis-entry _ _ (c .before .before .pre))
-
-run-at-requires : tie.Need-run-at-requires
-run-at-requires c κs = search needs
-
-run-at-requires-2 : tie.Need-run-at-requires-2
-run-at-requires-2 c κs = search needs
+add-t5 : tie.Need-add-t5
+add-t5 c = omega (arith, basis-entry _ _ (c .before .before .pre))
 
 returns : tie.Need-returns
 unfolding basisEntry
-returns c = rw (c .before .run-at .ensures, c .run-at2 .ensures, c .before .before .word-at .ensures)
+returns c = rw (c .word-at .ensures)
 
 pub basis-entry-spec : {M : Type 1} → statement M
-basis-entry-spec =
-    tie.close
-    (tie.spec
-    mul-at
-    add-at
-    word-at-requires
-    cast-n
-    add-run-at
-    run-at-requires
-    run-at-requires-2
-    returns)
+basis-entry-spec = tie.close (tie.spec mul-at add-at word-at-requires cast-n add-t5 returns)

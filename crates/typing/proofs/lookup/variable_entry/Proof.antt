@@ -36,21 +36,15 @@ word-at-requires-3 c κs = search needs
 sorted-by-requires : tie.Need-sorted-by-requires
 sorted-by-requires c κs = search needs
 
-add-run-at : tie.Need-add-run-at
-add-run-at c = omega (arith, variable-entry _ _ (c .before .before .before .before .before .pre))
+add-t6 : tie.Need-add-t6
+add-t6 c = omega (arith, variable-entry _ _ (c .before .before .before .before .before .pre))
 
-run-at-requires : tie.Need-run-at-requires
-run-at-requires c κs = search needs
-
-add-run-at-2 : tie.Need-add-run-at-2
-add-run-at-2 c = omega (arith, variable-entry _ _ (c .before .before .before .before .before .before .pre))
-
-run-at-requires-2 : tie.Need-run-at-requires-2
-run-at-requires-2 c κs = search needs
+add-t10 : tie.Need-add-t10
+add-t10 c = omega (arith, variable-entry _ _ (c .before .before .before .before .before .pre))
 
 returns : tie.Need-returns
 unfolding variableEntry
-returns c = rw (c .before .before .sorted-by .ensures, c .before .run-at .ensures, c .run-at2 .ensures, c .before .before .before .before .before .word-at .ensures, c .before .before .before .before .word-at2 .ensures, c .before .before .before .word-at3 .ensures)
+returns c = rw (c .sorted-by .ensures, c .before .before .before .word-at .ensures, c .before .before .word-at2 .ensures, c .before .word-at3 .ensures)
 
 pub variable-entry-spec : {M : Type 1} → statement M
 variable-entry-spec =
@@ -66,8 +60,6 @@ variable-entry-spec =
     cast-m
     word-at-requires-3
     sorted-by-requires
-    add-run-at
-    run-at-requires
-    add-run-at-2
-    run-at-requires-2
+    add-t6
+    add-t10
     returns)

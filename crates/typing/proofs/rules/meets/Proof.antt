@@ -1,13 +1,20 @@
 -- The test by its digit.
+use mathlib.Core.Path.{sym, _∙_}
+use Prim.Native.Nat.{_/_}
+use native.Mathlib.Omega.{arith}
+use borrow.Author.Needs.{needs}
 use borrow.Author.Tests.{ne-eqb}
 use Rattle.typebook.specs.Lines.{met}
-use Rattle.typing.proofs.Concluding.{placed}
-use borrow.Author.Needs.{needs}
+use Rattle.typing.proofs.Concluding.{placed, met-run}
 use Rattle.typing.proofs.rules.meets.Statement.{statement}
 use Rattle.typing.proofs.rules.meets.Tie as tie
 
 rule-of-requires : tie.Need-rule-of-requires
 rule-of-requires c κs = search needs
+
+returns : tie.Need-returns
+unfolding met
+returns c = rw (← c .before .rule-of .ensures, c .if1 .taken)
 
 piece-requires : tie.Need-piece-requires
 piece-requires c κs = search needs
@@ -16,24 +23,16 @@ piece-requires-2 : tie.Need-piece-requires-2
 piece-requires-2 c κs = search needs
 
 same-runs-requires : tie.Need-same-runs-requires
-same-runs-requires c κs = (rw (c .before .piece .ensures) (placed (c .before .before .before .before .before .pre) 1 .inside), rw (c .piece2 .ensures) (placed (c .before .before .before .before .before .pre) 3 .inside))
-
-returns : tie.Need-returns
-unfolding met
-returns c = rw (← c .before .before .before .before .rule-of .ensures, c .before .before .before .if1 .taken) (rw (c .before .before .piece .ensures, c .before .piece2 .ensures) at (c .same-runs .ensures))
-
-piece-requires-3 : tie.Need-piece-requires-3
-piece-requires-3 c κs = search needs
-
-piece-requires-4 : tie.Need-piece-requires-4
-piece-requires-4 c κs = search needs
-
-same-runs-requires-2 : tie.Need-same-runs-requires-2
-same-runs-requires-2 c κs = (rw (c .before .piece3 .ensures) (placed (c .before .before .before .before .before .before .pre) 2 .inside), rw (c .piece4 .ensures) (placed (c .before .before .before .before .before .before .pre) 3 .inside))
+same-runs-requires c κs =
+    let e = c .before .before .before .before in
+    let h = e .before .before .pre in
+    (rw (c .before .piece .ensures) (placed h (e .rule-of .result / 4096) .inside), rw (c .piece2 .ensures) (placed h 3 .inside))
 
 returns-2 : tie.Need-returns-2
-unfolding met
-returns-2 c = rw (← c .before .before .before .before .before .rule-of .ensures, c .before .before .before .if2 .taken) (rw (c .before .before .piece3 .ensures, c .before .piece4 .ensures) at (c .same-runs2 .ensures))
+returns-2 c =
+    let e = c .before .before .before .before .before in
+    let t = e .rule-of .result / 4096 in
+    rw (← e .rule-of .ensures) (rw (c .before .before .piece .ensures, c .before .piece2 .ensures, placed (e .before .before .pre) t .is) at (c .same-runs .ensures) ∙ sym (met-run t _ _ _ (c .before .before .before .before .if1 .left) (c .before .before .before .if2 .taken)))
 
 returns-3 : tie.Need-returns-3
 unfolding met
@@ -51,20 +50,20 @@ returns-4 c = rw (← c .before .before .before .before .before .before .before 
 
 returns-5 : tie.Need-returns-5
 unfolding met
-returns-5 c = rw (← c .before .before .before .before .rule-of .ensures, ne-eqb _ _ (c .before .before .before .if1 .left), ne-eqb _ _ (c .before .before .if2 .left), ne-eqb _ _ (c .before .if3 .left), ne-eqb _ _ (c .if4 .left))
+returns-5 c =
+    let e = c .before .before .before .before in
+    let t = e .rule-of .result / 4096 in
+    rw (← e .rule-of .ensures, ne-eqb t 1 (λ z. omega arith), ne-eqb t 2 (λ z. omega arith), ne-eqb t 3 (c .before .if3 .left), ne-eqb t 5 (c .if4 .left))
 
 pub meets-spec : {M : Type 1} → statement M
 meets-spec =
     tie.close
     (tie.spec
     rule-of-requires
+    returns
     piece-requires
     piece-requires-2
     same-runs-requires
-    returns
-    piece-requires-3
-    piece-requires-4
-    same-runs-requires-2
     returns-2
     returns-3
     number-requires

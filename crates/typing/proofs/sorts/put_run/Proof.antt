@@ -1,6 +1,6 @@
 -- The part of the words is the run.
 use Rattle.words.proofs.Runs.{added}
-use Rattle.typing.proofs.Lying.{run-taken}
+use native.Mathlib.Nat.{add-sub-cancel-left}
 use borrow.Author.Needs.{needs}
 use Rattle.typing.proofs.sorts.put_run.Statement.{statement}
 use Rattle.typing.proofs.sorts.put_run.Tie as tie
@@ -27,7 +27,7 @@ same-length : tie.Need-same-length
 same-length c = search needs
 
 returns : tie.Need-returns
-returns c = (rw run-taken at (added _ _ _ _ _ (c .before .before .append .ensures .0) (c .before .before .append .ensures .1)), rw run-taken at (c .before .before .append .ensures .1))
+returns c = (rw add-sub-cancel-left at (added _ _ _ _ _ (c .before .before .append .ensures .0) (c .before .before .append .ensures .1)), rw add-sub-cancel-left at (c .before .before .append .ensures .1))
 
 pub put-run-spec : {M : Type 1} → statement M
 put-run-spec =

@@ -1,6 +1,6 @@
 -- The two parts of the stack are the two runs.
 use mathlib.Core.Path.{_∙_}
-use Rattle.typing.proofs.Lying.{run-taken}
+use native.Mathlib.Nat.{add-sub-cancel-left}
 use borrow.Author.Needs.{needs}
 use Rattle.typing.proofs.sorts.same_runs.Statement.{statement}
 use Rattle.typing.proofs.sorts.same_runs.Tie as tie
@@ -39,7 +39,7 @@ same-requires : tie.Need-same-requires
 same-requires c κs = search needs
 
 returns : tie.Need-returns
-returns c = c .same .ensures ∙ rw (run-taken, run-taken)
+returns c = c .same .ensures ∙ rw (add-sub-cancel-left, add-sub-cancel-left)
 
 pub same-runs-spec : {M : Type 1} → statement M
 same-runs-spec =

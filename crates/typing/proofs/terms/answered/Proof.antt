@@ -1,60 +1,75 @@
--- Each class by its number.
+-- A class below 3 is no type's; the words of any other are laid over zeros.
+use mathlib.Core.Path.{sym}
+use native.Mathlib.Omega.{arith}
 use borrow.Author.Needs.{needs}
-use borrow.Author.Tests.{eq-eqb, ne-eqb}
-use Rattle.typing.proofs.Answering.{answerBy, answered-on}
+use lib.Seq.{length-take-le}
+use Rattle.typing.proofs.Answering.{no-type, a-type}
 use Rattle.typing.proofs.terms.answered.Statement.{statement}
 use Rattle.typing.proofs.terms.answered.Tie as tie
 
 number-requires : tie.Need-number-requires
 number-requires c κs = search needs
 
-accepted-requires : tie.Need-accepted-requires
-accepted-requires c κs = search needs
-
-returns : tie.Need-returns
-unfolding answerBy
-returns c = answered-on _ _ _ _ _ (c .before .before .before .before .pre) (rw (← c .before .before .number .ensures, eq-eqb _ _ (c .before .if1 .taken)) (c .accepted .ensures))
-
-accepted-requires-2 : tie.Need-accepted-requires-2
-accepted-requires-2 c κs = search needs
-
-returns-2 : tie.Need-returns-2
-unfolding answerBy
-returns-2 c = answered-on _ _ _ _ _ (c .before .before .before .before .before .pre) (rw (← c .before .before .before .number .ensures, ne-eqb _ _ (c .before .before .if1 .left), eq-eqb _ _ (c .before .if2 .taken)) (c .accepted2 .ensures))
-
-accepted-requires-3 : tie.Need-accepted-requires-3
-accepted-requires-3 c κs = search needs
-
-returns-3 : tie.Need-returns-3
-unfolding answerBy
-returns-3 c = answered-on _ _ _ _ _ (c .before .before .before .before .before .before .pre) (rw (← c .before .before .before .before .number .ensures, ne-eqb _ _ (c .before .before .before .if1 .left), ne-eqb _ _ (c .before .before .if2 .left), eq-eqb _ _ (c .before .if3 .taken)) (c .accepted3 .ensures))
-
-accepted-requires-4 : tie.Need-accepted-requires-4
-accepted-requires-4 c κs = search needs
-
-returns-4 : tie.Need-returns-4
-unfolding answerBy
-returns-4 c = answered-on _ _ _ _ _ (c .before .before .before .before .before .before .before .pre) (rw (← c .before .before .before .before .before .number .ensures, ne-eqb _ _ (c .before .before .before .before .if1 .left), ne-eqb _ _ (c .before .before .before .if2 .left), ne-eqb _ _ (c .before .before .if3 .left), eq-eqb _ _ (c .before .if4 .taken)) (c .accepted4 .ensures))
-
 refused-with-requires : tie.Need-refused-with-requires
 refused-with-requires c κs = search needs
 
-returns-5 : tie.Need-returns-5
-unfolding answerBy
-returns-5 c = answered-on _ _ _ _ _ (c .before .before .before .before .before .before .before .pre) (rw (← c .before .before .before .before .before .number .ensures, ne-eqb _ _ (c .before .before .before .before .if1 .left), ne-eqb _ _ (c .before .before .before .if2 .left), ne-eqb _ _ (c .before .before .if3 .left), ne-eqb _ _ (c .before .if4 .left)) (c .refused-with .ensures))
+returns : tie.Need-returns
+returns c = no-type _ _ _ _ (c .before .before .before .before .pre) (c .before .before .number .ensures) (c .before .if1 .taken) (c .refused-with .ensures)
+
+add-end : tie.Need-add-end
+add-end c = search needs
+
+slice-aggregate-copy-words : tie.Need-slice-aggregate-copy-words
+slice-aggregate-copy-words c = search needs
+
+slice-aggregate-copy-words-2 : tie.Need-slice-aggregate-copy-words-2
+slice-aggregate-copy-words-2 c = sym (length-take-le _ _ (omega arith))
+
+copy-words-requires : tie.Need-copy-words-requires
+copy-words-requires c κs = search needs
+
+slice-aggregate-copy-words-3 : tie.Need-slice-aggregate-copy-words-3
+slice-aggregate-copy-words-3 c = search needs
+
+mul-copy-words : tie.Need-mul-copy-words
+mul-copy-words c = search needs
+
+sub-copy-words : tie.Need-sub-copy-words
+sub-copy-words c = search needs
+
+part-copy-words-start : tie.Need-part-copy-words-start
+part-copy-words-start c = search needs
+
+part-copy-words-end : tie.Need-part-copy-words-end
+part-copy-words-end c = search needs
+
+copy-words-requires-2 : tie.Need-copy-words-requires-2
+copy-words-requires-2 c κs = search needs
+
+kind-of-requires : tie.Need-kind-of-requires
+kind-of-requires c κs = search needs
+
+returns-2 : tie.Need-returns-2
+returns-2 c =
+    let e = c .before .before .before .before .before .before .before .before .before in
+    a-type _ _ _ _ (e .before .before .before .pre) (e .before .number .ensures) (e .if1 .left) (c .kind-of .ensures) (c .before .before .before .before .before .before .copy-words .ensures .1) (c .before .before .copy-words2 .ensures .1)
 
 pub answered-spec : {M : Type 1} → statement M
 answered-spec =
     tie.close
     (tie.spec
     number-requires
-    accepted-requires
-    returns
-    accepted-requires-2
-    returns-2
-    accepted-requires-3
-    returns-3
-    accepted-requires-4
-    returns-4
     refused-with-requires
-    returns-5)
+    returns
+    add-end
+    slice-aggregate-copy-words
+    slice-aggregate-copy-words-2
+    copy-words-requires
+    slice-aggregate-copy-words-3
+    mul-copy-words
+    sub-copy-words
+    part-copy-words-start
+    part-copy-words-end
+    copy-words-requires-2
+    kind-of-requires
+    returns-2)
