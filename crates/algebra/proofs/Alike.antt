@@ -2,7 +2,7 @@
 use mathlib.Core.Path.{_≡_, refl, sym, _∙_, ap}
 use Prim.Native.Nat.{ℕ}
 use native.Mathlib.Omega.{arith}
-use Rattle.algebra.specs.Semirings.{StarSemiring}
+use Rattle.algebra.specs.Semirings.{Arithmetic}
 use Rattle.algebra.specs.Sums.{sum}
 use Rattle.algebra.specs.Matrices.{Matrix, _≈_, number, add, scale, mul, adjoint, kronecker}
 use Rattle.algebra.proofs.Sums.{sum-ext}
@@ -34,32 +34,32 @@ module _ {R : Type 0} where
   unfolding number
   number-≈ p h k = p .entries 0 0 (omega arith) (omega arith)
 
-module _ {R : Type 0} (𝓡 : StarSemiring R) where
-  pub add-≈ : {A A′ B B′ : Matrix R} → A .rows ≡ B .rows → A .columns ≡ B .columns → A ≈ A′ → B ≈ B′ → add 𝓡 A B ≈ add 𝓡 A′ B′
+module _ {R : Type 0} (𝓐 : Arithmetic R) where
+  pub add-≈ : {A A′ B B′ : Matrix R} → A .rows ≡ B .rows → A .columns ≡ B .columns → A ≈ A′ → B ≈ B′ → add 𝓐 A B ≈ add 𝓐 A′ B′
   unfolding add
   add-≈ m n p q =
       record { rows = p .rows; columns = p .columns; entries = λ i j h k. cc (p .entries i j h k, q .entries i j (rw m at h) (rw n at k)) }
 
-  pub scale-≈ : {x y : R} {A A′ : Matrix R} → x ≡ y → A ≈ A′ → scale 𝓡 x A ≈ scale 𝓡 y A′
+  pub scale-≈ : {x y : R} {A A′ : Matrix R} → x ≡ y → A ≈ A′ → scale 𝓐 x A ≈ scale 𝓐 y A′
   unfolding scale
   scale-≈ e p = record { rows = p .rows; columns = p .columns; entries = λ i j h k. cc (e, p .entries i j h k) }
 
-  pub mul-≈ : {A A′ B B′ : Matrix R} → A .columns ≡ B .rows → A ≈ A′ → B ≈ B′ → mul 𝓡 A B ≈ mul 𝓡 A′ B′
+  pub mul-≈ : {A A′ B B′ : Matrix R} → A .columns ≡ B .rows → A ≈ A′ → B ≈ B′ → mul 𝓐 A B ≈ mul 𝓐 A′ B′
   unfolding mul
   mul-≈ {A} {A′} {B} {B′} m p q =
       record {
         rows = p .rows;
         columns = q .columns;
         entries = λ i j h k.
-            sum-ext 𝓡 (A .columns) _ _ (λ l b. cc (p .entries i l h b, q .entries l j (rw m at b) k))
-            ∙ ap (λ n. sum 𝓡 n λ l. 𝓡 .mul (A′ .entry i l) (B′ .entry l j)) (p .columns);
+            sum-ext 𝓐 (A .columns) _ _ (λ l b. cc (p .entries i l h b, q .entries l j (rw m at b) k))
+            ∙ ap (λ n. sum 𝓐 n λ l. 𝓐 .mul (A′ .entry i l) (B′ .entry l j)) (p .columns);
       }
 
-  pub adjoint-≈ : {A A′ : Matrix R} → A ≈ A′ → adjoint 𝓡 A ≈ adjoint 𝓡 A′
+  pub adjoint-≈ : {A A′ : Matrix R} → A ≈ A′ → adjoint 𝓐 A ≈ adjoint 𝓐 A′
   unfolding adjoint
-  adjoint-≈ p = record { rows = p .columns; columns = p .rows; entries = λ i j h k. ap (𝓡 .conj) (p .entries j i k h) }
+  adjoint-≈ p = record { rows = p .columns; columns = p .rows; entries = λ i j h k. ap (𝓐 .conj) (p .entries j i k h) }
 
-  pub kronecker-≈ : {A A′ B B′ : Matrix R} → A ≈ A′ → B ≈ B′ → kronecker 𝓡 A B ≈ kronecker 𝓡 A′ B′
+  pub kronecker-≈ : {A A′ B B′ : Matrix R} → A ≈ A′ → B ≈ B′ → kronecker 𝓐 A B ≈ kronecker 𝓐 A′ B′
   unfolding kronecker
   kronecker-≈ {A} {A′} {B} {B′} p q =
       record {

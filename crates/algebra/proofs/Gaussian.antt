@@ -2,7 +2,7 @@
 use mathlib.Core.Path.{_≡_, refl}
 use lib.IntN.{+ℤ-assoc, +ℤ-comm, +ℤ-idl, +ℤ-idr, negℤ-negℤ, negℤ-+ℤ, *ℤ-zero, *ℤ-comm}
 use Rattle.algebra.specs.Semirings.{StarSemiring}
-use Rattle.algebra.specs.Gaussian.{Gaussian, zero, one, add, mul, conj}
+use Rattle.algebra.specs.Gaussian.{Gaussian, gaussian, zero, one, add, mul, conj}
 use Rattle.algebra.proofs.Integers as Z
 
 -- multiplies out, moves negations outward over products and inward over sums, and sorts (for want of a `ring` tactic)
@@ -55,15 +55,9 @@ pub conj-mul : (x y : Gaussian) → conj (mul x y) ≡ mul (conj x) (conj y)
 unfolding mul conj
 conj-mul x y = parts (simp (Z.mul-neg, Z.neg-mul, negℤ-negℤ)) (simp (Z.mul-neg, Z.neg-mul, negℤ-+ℤ))
 
--- It computes where `add`, `mul` and `conj` stand on an `unfolding` line. The laws are lemmas of their own since an `abbrev pub` may name nothing private
-abbrev pub gaussian : StarSemiring Gaussian
-gaussian =
+pub gaussian-laws : StarSemiring gaussian
+gaussian-laws =
     record {
-      zero = zero;
-      one = one;
-      add = add;
-      mul = mul;
-      conj = conj;
       add-assoc = add-assoc;
       add-comm = add-comm;
       add-zero = add-zero;

@@ -1,10 +1,10 @@
 -- What follows from the laws of a star semiring.
 use mathlib.Core.Path.{_≡_, _∙_}
-use Rattle.algebra.specs.Semirings.{StarSemiring}
+use Rattle.algebra.specs.Semirings.{Arithmetic, StarSemiring}
 use Rattle.algebra.proofs.Commutative.{left-comm, exchange, unit-left, keeps-unit}
 
-module _ {R : Type 0} (𝓡 : StarSemiring R) where
-  open StarSemiring 𝓡 using (zero as 𝟘, one as 𝟙, add as _⊕_, mul as _⊙_, conj)
+module _ {R : Type 0} {𝓐 : Arithmetic R} (𝓡 : StarSemiring 𝓐) where
+  open Arithmetic 𝓐 using (zero as 𝟘, one as 𝟙, add as _⊕_, mul as _⊙_, conj)
 
   infixl 65 _⊕_
   infixl 70 _⊙_

@@ -1,7 +1,7 @@
 -- The shapes of what the operations make.
 use mathlib.Core.Path.{_≡_, refl, sym, _∙_}
 use Prim.Native.Nat.{ℕ, _*_}
-use Rattle.algebra.specs.Semirings.{StarSemiring}
+use Rattle.algebra.specs.Semirings.{Arithmetic}
 use Rattle.algebra.specs.Matrices.{Matrix, Shape, zeros, identity, unit-column, unit-row, scalar, add, scale, mul, adjoint, kronecker}
 
 module _ {R : Type 0} {A B : Matrix R} {m n k : ℕ} where
@@ -15,43 +15,43 @@ module _ {R : Type 0} {A B : Matrix R} {m n k : ℕ} where
   pub conformable : Shape A m n → Shape B n k → A .columns ≡ B .rows
   conformable a b = a .columns ∙ sym (b .rows)
 
-module _ {R : Type 0} (𝓡 : StarSemiring R) where
-  pub shape-scalar : (x : R) → Shape (scalar 𝓡 x) 1 1
+module _ {R : Type 0} (𝓐 : Arithmetic R) where
+  pub shape-scalar : (x : R) → Shape (scalar 𝓐 x) 1 1
   unfolding scalar
   shape-scalar x = record { rows = refl; columns = refl }
 
-  pub shape-zeros : {m n m′ n′ : ℕ} → m ≡ m′ → n ≡ n′ → Shape (zeros 𝓡 m n) m′ n′
+  pub shape-zeros : {m n m′ n′ : ℕ} → m ≡ m′ → n ≡ n′ → Shape (zeros 𝓐 m n) m′ n′
   unfolding zeros
   shape-zeros m n = record { rows = m; columns = n }
 
-  pub shape-identity : {n n′ : ℕ} → n ≡ n′ → Shape (identity 𝓡 n) n′ n′
+  pub shape-identity : {n n′ : ℕ} → n ≡ n′ → Shape (identity 𝓐 n) n′ n′
   unfolding identity
   shape-identity n = record { rows = n; columns = n }
 
-  pub shape-unit-column : {n n′ : ℕ} (k : ℕ) → n ≡ n′ → Shape (unit-column 𝓡 n k) n′ 1
+  pub shape-unit-column : {n n′ : ℕ} (k : ℕ) → n ≡ n′ → Shape (unit-column 𝓐 n k) n′ 1
   unfolding unit-column
   shape-unit-column k n = record { rows = n; columns = refl }
 
-  pub shape-unit-row : {n n′ : ℕ} (k : ℕ) → n ≡ n′ → Shape (unit-row 𝓡 n k) 1 n′
+  pub shape-unit-row : {n n′ : ℕ} (k : ℕ) → n ≡ n′ → Shape (unit-row 𝓐 n k) 1 n′
   unfolding unit-row
   shape-unit-row k n = record { rows = refl; columns = n }
 
-  pub shape-add : {A : Matrix R} {m n : ℕ} (B : Matrix R) → Shape A m n → Shape (add 𝓡 A B) m n
+  pub shape-add : {A : Matrix R} {m n : ℕ} (B : Matrix R) → Shape A m n → Shape (add 𝓐 A B) m n
   unfolding add
   shape-add B a = record { rows = a .rows; columns = a .columns }
 
-  pub shape-scale : {A : Matrix R} {m n : ℕ} (x : R) → Shape A m n → Shape (scale 𝓡 x A) m n
+  pub shape-scale : {A : Matrix R} {m n : ℕ} (x : R) → Shape A m n → Shape (scale 𝓐 x A) m n
   unfolding scale
   shape-scale x a = record { rows = a .rows; columns = a .columns }
 
-  pub shape-mul : {A B : Matrix R} {m n k l : ℕ} → Shape A m n → Shape B k l → Shape (mul 𝓡 A B) m l
+  pub shape-mul : {A B : Matrix R} {m n k l : ℕ} → Shape A m n → Shape B k l → Shape (mul 𝓐 A B) m l
   unfolding mul
   shape-mul a b = record { rows = a .rows; columns = b .columns }
 
-  pub shape-adjoint : {A : Matrix R} {m n : ℕ} → Shape A m n → Shape (adjoint 𝓡 A) n m
+  pub shape-adjoint : {A : Matrix R} {m n : ℕ} → Shape A m n → Shape (adjoint 𝓐 A) n m
   unfolding adjoint
   shape-adjoint a = record { rows = a .columns; columns = a .rows }
 
-  pub shape-kronecker : {A B : Matrix R} {m n k l : ℕ} → Shape A m n → Shape B k l → Shape (kronecker 𝓡 A B) (m * k) (n * l)
+  pub shape-kronecker : {A B : Matrix R} {m n k l : ℕ} → Shape A m n → Shape B k l → Shape (kronecker 𝓐 A B) (m * k) (n * l)
   unfolding kronecker
   shape-kronecker a b = record { rows = cc (a .rows, b .rows); columns = cc (a .columns, b .columns) }

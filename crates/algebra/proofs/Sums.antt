@@ -6,23 +6,24 @@ use native.Mathlib.Decide.{decLt}
 use native.Mathlib.Nat.{add-zero, add-suc, zero-mul, suc-mul}
 use native.Mathlib.Omega.{arith}
 use lib.Arith.{digits-div, digits-mod}
-use Rattle.algebra.specs.Semirings.{StarSemiring}
+use Rattle.algebra.specs.Semirings.{Arithmetic, StarSemiring}
 use Rattle.algebra.specs.Sums.{sum}
 use Rattle.algebra.proofs.Semirings as S
 
-module _ {R : Type 0} (𝓡 : StarSemiring R) where
-  open StarSemiring 𝓡 using (zero as 𝟘, one as 𝟙, add as _⊕_, mul as _⊙_, conj)
+module _ {R : Type 0} (𝓐 : Arithmetic R) where
+  -- only the summands in range count
+  pub sum-ext : (n : ℕ) (f g : ℕ → R) → ((k : ℕ) → k < n → f k ≡ g k) → sum 𝓐 n f ≡ sum 𝓐 n g
+  unfolding sum
+  sum-ext zero f g e = refl
+  sum-ext (suc n) f g e = cc (sum-ext n f g (λ k h. e k (omega arith)), e n (omega arith))
+
+module _ {R : Type 0} {𝓐 : Arithmetic R} (𝓡 : StarSemiring 𝓐) where
+  open Arithmetic 𝓐 using (zero as 𝟘, one as 𝟙, add as _⊕_, mul as _⊙_, conj)
 
   infixl 65 _⊕_
   infixl 70 _⊙_
   abbrev Σ : ℕ → (ℕ → R) → R
-  Σ = sum 𝓡
-
-  -- only the summands in range count
-  pub sum-ext : (n : ℕ) (f g : ℕ → R) → ((k : ℕ) → k < n → f k ≡ g k) → Σ n f ≡ Σ n g
-  unfolding sum
-  sum-ext zero f g e = refl
-  sum-ext (suc n) f g e = cc (sum-ext n f g (λ k h. e k (omega arith)), e n (omega arith))
+  Σ = sum 𝓐
 
   pub sum-zero : (n : ℕ) → Σ n (λ k. 𝟘) ≡ 𝟘
   unfolding sum
@@ -51,7 +52,7 @@ module _ {R : Type 0} (𝓡 : StarSemiring R) where
 
   -- all summands are zero, and all but one are
   pub sum-none : (n : ℕ) (f : ℕ → R) → ((i : ℕ) → i < n → f i ≡ 𝟘) → Σ n f ≡ 𝟘
-  sum-none n f z = sum-ext n f (λ k. 𝟘) z ∙ sum-zero n
+  sum-none n f z = sum-ext 𝓐 n f (λ k. 𝟘) z ∙ sum-zero n
 
   pub sum-single : (n k : ℕ) (f : ℕ → R) → k < n → ((i : ℕ) → i < n → i ≢ k → f i ≡ 𝟘) → Σ n f ≡ f k
   unfolding sum
@@ -79,11 +80,11 @@ module _ {R : Type 0} (𝓡 : StarSemiring R) where
   pub sum-digits : (m n : ℕ) (f : ℕ → ℕ → R) → Σ (m * n) (λ k. f (k / n) (k % n)) ≡ Σ m (λ i. Σ n (f i))
   sum-digits m n f =
       sum-split m n (λ k. f (k / n) (k % n))
-      ∙ sum-ext m _ _ λ i h. sum-ext n _ _ λ j l. cc (digits-div i l, digits-mod i l)
+      ∙ sum-ext 𝓐 m _ _ λ i h. sum-ext 𝓐 n _ _ λ j l. cc (digits-div i l, digits-mod i l)
 
   pub sum-product : (m n : ℕ) (f g : ℕ → R) → Σ (m * n) (λ k. f (k / n) ⊙ g (k % n)) ≡ Σ m f ⊙ Σ n g
   sum-product m n f g =
       sum-digits m n (λ i j. f i ⊙ g j)
-      ∙ sum-ext m _ _ (λ i h. sym (sum-scale (f i) n g) ∙ 𝓡 .mul-comm (f i) (Σ n g))
+      ∙ sum-ext 𝓐 m _ _ (λ i h. sym (sum-scale (f i) n g) ∙ 𝓡 .mul-comm (f i) (Σ n g))
       ∙ sym (sum-scale (Σ n g) m f)
       ∙ 𝓡 .mul-comm (Σ n g) (Σ m f)

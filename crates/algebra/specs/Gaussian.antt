@@ -1,5 +1,6 @@
 -- The Gaussian integers. Document 01: "Entries are Gaussian integers, pairs of whole numbers".
 use lib.IntN.{ℤ, pos, negℤ, _+ℤ_, _-ℤ_, _*ℤ_}
+use Rattle.algebra.specs.Semirings.{Arithmetic}
 
 -- re + im · i
 pub record Gaussian : Type 0 where
@@ -21,3 +22,7 @@ mul x y = record { re = x .re *ℤ y .re -ℤ x .im *ℤ y .im; im = x .re *ℤ 
 
 unfoldable pub conj : Gaussian → Gaussian
 conj x = record { re = x .re; im = negℤ (x .im) }
+
+-- the arithmetic in which demand 3 is read. It computes where `add`, `mul` and `conj` stand on an `unfolding` line
+abbrev pub gaussian : Arithmetic Gaussian
+gaussian = record { zero = zero; one = one; add = add; mul = mul; conj = conj }

@@ -3,7 +3,7 @@ use mathlib.Core.Path.{_≡_}
 use mathlib.Core.Bool.{cond}
 use Prim.Native.Nat.{ℕ, _*_, _/_, _%_, _<_}
 use lib.Dec.{eqb}
-use Rattle.algebra.specs.Semirings.{StarSemiring}
+use Rattle.algebra.specs.Semirings.{Arithmetic}
 use Rattle.algebra.specs.Sums.{sum}
 
 -- So many rows and columns, and an entry for each row and column. What stands outside the shape is of no account: `_≈_` does not look at it
@@ -28,13 +28,13 @@ pub record Shape {R : Type 0} (A : Matrix R) (m n : ℕ) : Type 0 where
 unfoldable pub number : {R : Type 0} → Matrix R → R
 number A = A .entry 0 0
 
-module _ {R : Type 0} (𝓡 : StarSemiring R) where
+module _ {R : Type 0} (𝓐 : Arithmetic R) where
   -- 1 where two indices are equal, else 0
   unfoldable pub kronecker-delta : ℕ → ℕ → R
-  kronecker-delta i j = cond (eqb i j) (𝓡 .one) (𝓡 .zero)
+  kronecker-delta i j = cond (eqb i j) (𝓐 .one) (𝓐 .zero)
 
   unfoldable pub zeros : ℕ → ℕ → Matrix R
-  zeros m n = record { rows = m; columns = n; entry = λ i j. 𝓡 .zero }
+  zeros m n = record { rows = m; columns = n; entry = λ i j. 𝓐 .zero }
 
   unfoldable pub identity : ℕ → Matrix R
   identity n = record { rows = n; columns = n; entry = kronecker-delta }
@@ -51,17 +51,17 @@ module _ {R : Type 0} (𝓡 : StarSemiring R) where
   scalar x = record { rows = 1; columns = 1; entry = λ i j. x }
 
   unfoldable pub add : Matrix R → Matrix R → Matrix R
-  add A B = record { rows = A .rows; columns = A .columns; entry = λ i j. 𝓡 .add (A .entry i j) (B .entry i j) }
+  add A B = record { rows = A .rows; columns = A .columns; entry = λ i j. 𝓐 .add (A .entry i j) (B .entry i j) }
 
   unfoldable pub scale : R → Matrix R → Matrix R
-  scale x A = record { rows = A .rows; columns = A .columns; entry = λ i j. 𝓡 .mul x (A .entry i j) }
+  scale x A = record { rows = A .rows; columns = A .columns; entry = λ i j. 𝓐 .mul x (A .entry i j) }
 
   unfoldable pub mul : Matrix R → Matrix R → Matrix R
-  mul A B = record { rows = A .rows; columns = B .columns; entry = λ i j. sum 𝓡 (A .columns) λ k. 𝓡 .mul (A .entry i k) (B .entry k j) }
+  mul A B = record { rows = A .rows; columns = B .columns; entry = λ i j. sum 𝓐 (A .columns) λ k. 𝓐 .mul (A .entry i k) (B .entry k j) }
 
   -- the conjugate transpose
   unfoldable pub adjoint : Matrix R → Matrix R
-  adjoint A = record { rows = A .columns; columns = A .rows; entry = λ i j. 𝓡 .conj (A .entry j i) }
+  adjoint A = record { rows = A .columns; columns = A .rows; entry = λ i j. 𝓐 .conj (A .entry j i) }
 
   -- the Kronecker product, the left factor's index being the more significant
   unfoldable pub kronecker : Matrix R → Matrix R → Matrix R
@@ -69,5 +69,5 @@ module _ {R : Type 0} (𝓡 : StarSemiring R) where
       record {
         rows = A .rows * B .rows;
         columns = A .columns * B .columns;
-        entry = λ i j. 𝓡 .mul (A .entry (i / B .rows) (j / B .columns)) (B .entry (i % B .rows) (j % B .columns));
+        entry = λ i j. 𝓐 .mul (A .entry (i / B .rows) (j / B .columns)) (B .entry (i % B .rows) (j % B .columns));
       }

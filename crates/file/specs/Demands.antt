@@ -4,8 +4,7 @@ use mathlib.Core.Logic.{_↔_, _≢_, _⊎_}
 use mathlib.Core.List.{List}
 use Prim.Native.Nat.{ℕ, _-_, _≤_}
 use lib.ListN.{length, drop, replicate}
-use Rattle.algebra.specs.Gaussian.{Gaussian}
-use Rattle.algebra.proofs.Gaussian.{gaussian}
+use Rattle.algebra.specs.Gaussian.{Gaussian, gaussian}
 use Rattle.term.specs.Trees.{words}
 use Rattle.types.specs.Sorts.{Sort}
 use Rattle.meaning.specs.Choices.{Choice}

@@ -6,8 +6,7 @@ use lib.IntN.{ℤ, pos, negsuc}
 use lib.ListN.{getD}
 use Rattle.algebra.specs.Sums.{sum}
 use Rattle.algebra.specs.Matrices.{Matrix, number, kronecker-delta, zeros, identity as identity-matrix, unit-column, unit-row, scalar as scalar-matrix, add as add-matrix, scale as scale-matrix, mul, adjoint as adjoint-matrix, kronecker}
-use Rattle.algebra.specs.Gaussian.{Gaussian, add as add-numbers, mul as multiply-numbers, conj}
-use Rattle.algebra.proofs.Gaussian.{gaussian}
+use Rattle.algebra.specs.Gaussian.{Gaussian, gaussian, add as add-numbers, mul as multiply-numbers, conj}
 use Rattle.term.specs.Heads.{Label, type-name, basis-name, variable, index-product, pair, scalar-one, scalar-sum, scalar-product, conjugate, delta, dot, zero-operator, identity, basis-ket, basis-bra, adjoint, scale, add, tensor, mulk, outer, mulo}
 use Rattle.term.specs.Trees.{Tree, node, none, _▹_}
 use Rattle.types.specs.Sorts.{scalar, ket, operator, Context}

@@ -1,10 +1,9 @@
 -- The witnesses of `specs/Statements`.
 use mathlib.Core.Path.{_≡_}
 use mathlib.Core.Logic.{_↔_}
-use Rattle.algebra.specs.Semirings.{StarSemiring}
+use Rattle.algebra.specs.Semirings.{Arithmetic}
 use Rattle.algebra.specs.Matrices.{Matrix, _≈_}
-use Rattle.algebra.specs.Gaussian.{Gaussian}
-use Rattle.algebra.proofs.Gaussian.{gaussian}
+use Rattle.algebra.specs.Gaussian.{Gaussian, gaussian}
 use Rattle.types.specs.Sorts.{Sort, index, basis, scalar, ket, bra, operator}
 use Rattle.types.specs.Rules.{IsType}
 use Rattle.types.proofs.Complete.{unique}
@@ -15,16 +14,16 @@ use Rattle.meaning.specs.Statements.{KeepsShape, Congruent, EqualNumbers
 use Rattle.meaning.proofs.Shapes.{shape}
 use Rattle.meaning.proofs.Congruence.{replace-serves}
 
-pub keeps-shape : {R : Type 0} (𝓡 : StarSemiring R) → KeepsShape 𝓡
-keeps-shape 𝓡 Γ χ W F t S d = shape 𝓡 W F d
+pub keeps-shape : {R : Type 0} (𝓐 : Arithmetic R) → KeepsShape 𝓐
+keeps-shape 𝓐 Γ χ W F t S d = shape 𝓐 W F d
 
-pub congruent : {R : Type 0} (𝓡 : StarSemiring R) → Congruent 𝓡
-congruent 𝓡 Γ χ W F t S at s u Q d e old new same =
-    replace-serves 𝓡 W F s u (λ P p. let z : Q ≡ P = unique Γ old p in rw (← z) (new, same)) t at e S d
+pub congruent : {R : Type 0} (𝓐 : Arithmetic R) → Congruent 𝓐
+congruent 𝓐 Γ χ W F t S at s u Q d e old new same =
+    replace-serves 𝓐 W F s u (λ P p. let z : Q ≡ P = unique Γ old p in rw (← z) (new, same)) t at e S d
 
 -- ---- at a type, a meaning is its matrix
-module _ {R : Type 0} (𝓡 : StarSemiring R) where
-  proper-shaped : (χ : Choice R) (S : Sort) (x : Meaning R) → IsType S → Proper 𝓡 χ S x → Shaped 𝓡 χ S (x .matrix)
+module _ {R : Type 0} (𝓐 : Arithmetic R) where
+  proper-shaped : (χ : Choice R) (S : Sort) (x : Meaning R) → IsType S → Proper 𝓐 χ S x → Shaped 𝓐 χ S (x .matrix)
   proper-shaped χ (index σ) x h p = absurd h
   proper-shaped χ (basis σ) x h p = absurd h
   proper-shaped χ scalar x h p = p

@@ -1,6 +1,6 @@
 -- Choices, and what a part of a term stands for.
 use Prim.Native.Nat.{ℕ}
-use Rattle.algebra.specs.Semirings.{StarSemiring}
+use Rattle.algebra.specs.Semirings.{Arithmetic}
 use Rattle.algebra.specs.Matrices.{Matrix, zeros}
 
 -- 01: "A choice is a dimension for each type name, an index for each basis name and, for each variable, the matrix, shaped as declared, that it stands for"
@@ -21,9 +21,9 @@ pub record Names (R : Type 0) : Type 0 where
   pub bases : ℕ → Meaning R
   pub variables : ℕ → Meaning R
 
-module _ {R : Type 0} (𝓡 : StarSemiring R) where
+module _ {R : Type 0} (𝓐 : Arithmetic R) where
   unfoldable pub a-basis : ℕ → ℕ → Meaning R
-  a-basis d p = record { dimension = d; position = p; matrix = zeros 𝓡 0 0 }
+  a-basis d p = record { dimension = d; position = p; matrix = zeros 𝓐 0 0 }
 
   unfoldable pub an-index : ℕ → Meaning R
   unfolding a-basis

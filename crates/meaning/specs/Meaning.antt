@@ -3,74 +3,74 @@ use mathlib.Core.Option.{Option, some, none as undeclared}
 use mathlib.Core.List.{List, [], _∷_}
 use Prim.Native.Nat.{ℕ, _+_, _*_}
 use lib.ListN.{getElem?}
-use Rattle.algebra.specs.Semirings.{StarSemiring}
+use Rattle.algebra.specs.Semirings.{Arithmetic}
 use Rattle.algebra.specs.Matrices.{Matrix, number, kronecker-delta, zeros, identity as identity-matrix, unit-column, unit-row, scalar, add as add-matrix, scale as scale-matrix, mul, adjoint as adjoint-matrix, kronecker}
 use Rattle.term.specs.Heads.{Label, type-name, basis-name, variable, index-product, pair, scalar-zero, scalar-one, scalar-sum, scalar-product, conjugate, delta, dot, zero-ket, zero-bra, zero-operator, identity, basis-ket, basis-bra, adjoint, scale, add, tensor, mulk, mulb, outer, mulo}
 use Rattle.term.specs.Trees.{Tree, Forest, node, none, _▹_}
 use Rattle.types.specs.Sorts.{Context}
 use Rattle.meaning.specs.Choices.{Choice, Meaning, Names, an-index, a-basis, a-term, nothing}
 
-module _ {R : Type 0} (𝓡 : StarSemiring R) where
+module _ {R : Type 0} (𝓐 : Arithmetic R) where
   -- ---- children
   unfoldable pub first : List (Meaning R) → Meaning R
-  first [] = nothing 𝓡
+  first [] = nothing 𝓐
   first (c ∷ cs) = c
 
   unfoldable pub second : List (Meaning R) → Meaning R
-  second [] = nothing 𝓡
+  second [] = nothing 𝓐
   second (c ∷ cs) = first cs
 
   -- 01: "7 and 20 add entry by entry": a matrix and the matrices of more children
   unfoldable pub plus : Matrix R → List (Meaning R) → Matrix R
   plus A [] = A
-  plus A (c ∷ cs) = add-matrix 𝓡 A (plus (c .matrix) cs)
+  plus A (c ∷ cs) = add-matrix 𝓐 A (plus (c .matrix) cs)
 
   unfoldable pub total : List (Meaning R) → Matrix R
-  total [] = nothing 𝓡 .matrix
+  total [] = nothing 𝓐 .matrix
   total (c ∷ cs) = plus (c .matrix) cs
 
   -- 01: "8 multiplies numbers"
   unfoldable pub times : List (Meaning R) → R
-  times [] = 𝓡 .one
-  times (c ∷ cs) = 𝓡 .mul (number (c .matrix)) (times cs)
+  times [] = 𝓐 .one
+  times (c ∷ cs) = 𝓐 .mul (number (c .matrix)) (times cs)
 
   -- 01: "11 and 22 to 25 are matrix products"
   unfoldable pub product : List (Meaning R) → Meaning R
-  product cs = a-term (mul 𝓡 (first cs .matrix) (second cs .matrix))
+  product cs = a-term (mul 𝓐 (first cs .matrix) (second cs .matrix))
 
   -- ---- each head, in the order of document 01's table
   unfoldable pub meaningOf : Names R → Label → List (Meaning R) → Meaning R
   -- 01: "A type name has a dimension from 1 up; a product multiplies"
   meaningOf N (type-name a) cs = N .types a
-  meaningOf N index-product cs = an-index 𝓡 (first cs .dimension * second cs .dimension)
+  meaningOf N index-product cs = an-index 𝓐 (first cs .dimension * second cs .dimension)
   -- 01: "A basis name is an index from 0 below its dimension; the pair (s, t) is s × (dimension of t's index) + t"
   meaningOf N (basis-name a) cs = N .bases a
   meaningOf N pair cs =
       let s = first cs in
       let t = second cs in
-      a-basis 𝓡 (s .dimension * t .dimension) (s .position * t .dimension + t .position)
+      a-basis 𝓐 (s .dimension * t .dimension) (s .position * t .dimension + t .position)
   -- 01: "5 is 0 and 6 is 1. 7 and 20 add entry by entry, 8 multiplies numbers, 19 every entry, 9 conjugates"
-  meaningOf N scalar-zero cs = a-term (scalar 𝓡 (𝓡 .zero))
-  meaningOf N scalar-one cs = a-term (scalar 𝓡 (𝓡 .one))
+  meaningOf N scalar-zero cs = a-term (scalar 𝓐 (𝓐 .zero))
+  meaningOf N scalar-one cs = a-term (scalar 𝓐 (𝓐 .one))
   meaningOf N scalar-sum cs = a-term (total cs)
-  meaningOf N scalar-product cs = a-term (scalar 𝓡 (times cs))
-  meaningOf N conjugate cs = a-term (scalar 𝓡 (𝓡 .conj (number (first cs .matrix))))
+  meaningOf N scalar-product cs = a-term (scalar 𝓐 (times cs))
+  meaningOf N conjugate cs = a-term (scalar 𝓐 (𝓐 .conj (number (first cs .matrix))))
   -- 01: "Delta is 1 where the two indices are equal, else 0"
-  meaningOf N delta cs = a-term (scalar 𝓡 (kronecker-delta 𝓡 (first cs .position) (second cs .position)))
+  meaningOf N delta cs = a-term (scalar 𝓐 (kronecker-delta 𝓐 (first cs .position) (second cs .position)))
   meaningOf N dot cs = product cs
   -- 01: "12 to 14 are all 0; 15 is 1 where row equals column, 16 at the row and 17 at the column that its basis names, else 0"
-  meaningOf N zero-ket cs = a-term (zeros 𝓡 (first cs .dimension) 1)
-  meaningOf N zero-bra cs = a-term (zeros 𝓡 1 (first cs .dimension))
-  meaningOf N zero-operator cs = a-term (zeros 𝓡 (first cs .dimension) (second cs .dimension))
-  meaningOf N identity cs = a-term (identity-matrix 𝓡 (first cs .dimension))
-  meaningOf N basis-ket cs = a-term (unit-column 𝓡 (first cs .dimension) (first cs .position))
-  meaningOf N basis-bra cs = a-term (unit-row 𝓡 (first cs .dimension) (first cs .position))
+  meaningOf N zero-ket cs = a-term (zeros 𝓐 (first cs .dimension) 1)
+  meaningOf N zero-bra cs = a-term (zeros 𝓐 1 (first cs .dimension))
+  meaningOf N zero-operator cs = a-term (zeros 𝓐 (first cs .dimension) (second cs .dimension))
+  meaningOf N identity cs = a-term (identity-matrix 𝓐 (first cs .dimension))
+  meaningOf N basis-ket cs = a-term (unit-column 𝓐 (first cs .dimension) (first cs .position))
+  meaningOf N basis-bra cs = a-term (unit-row 𝓐 (first cs .dimension) (first cs .position))
   -- 01: "Adjoint is the conjugate transpose"
-  meaningOf N adjoint cs = a-term (adjoint-matrix 𝓡 (first cs .matrix))
-  meaningOf N scale cs = a-term (scale-matrix 𝓡 (number (first cs .matrix)) (second cs .matrix))
+  meaningOf N adjoint cs = a-term (adjoint-matrix 𝓐 (first cs .matrix))
+  meaningOf N scale cs = a-term (scale-matrix 𝓐 (number (first cs .matrix)) (second cs .matrix))
   meaningOf N add cs = a-term (total cs)
   -- 01: "Tensor is the Kronecker product, the left factor's index being the more significant"
-  meaningOf N tensor cs = a-term (kronecker 𝓡 (first cs .matrix) (second cs .matrix))
+  meaningOf N tensor cs = a-term (kronecker 𝓐 (first cs .matrix) (second cs .matrix))
   meaningOf N mulk cs = product cs
   meaningOf N mulb cs = product cs
   meaningOf N outer cs = product cs
@@ -88,7 +88,7 @@ module _ {R : Type 0} (𝓡 : StarSemiring R) where
   -- ---- under a choice
   -- the dimension of an index, which holds type names alone
   unfoldable pub dimension : Choice R → Tree → ℕ
-  dimension χ σ = meaning (record { types = λ a. an-index 𝓡 (χ .dimension a); bases = λ a. nothing 𝓡; variables = λ a. nothing 𝓡 }) σ .dimension
+  dimension χ σ = meaning (record { types = λ a. an-index 𝓐 (χ .dimension a); bases = λ a. nothing 𝓐; variables = λ a. nothing 𝓐 }) σ .dimension
 
   -- the dimension of a basis name's index
   unfoldable pub declared : Choice R → Option Tree → ℕ
@@ -98,8 +98,8 @@ module _ {R : Type 0} (𝓡 : StarSemiring R) where
   unfoldable pub names : Context → Choice R → Names R
   names Γ χ =
       record {
-        types = λ a. an-index 𝓡 (χ .dimension a);
-        bases = λ a. a-basis 𝓡 (declared χ (getElem? (Γ .bases) a)) (χ .position a);
+        types = λ a. an-index 𝓐 (χ .dimension a);
+        bases = λ a. a-basis 𝓐 (declared χ (getElem? (Γ .bases) a)) (χ .position a);
         variables = λ a. a-term (χ .matrix a);
       }
 

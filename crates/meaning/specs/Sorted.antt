@@ -3,33 +3,33 @@ use mathlib.Core.Path.{_≡_}
 use mathlib.Core.Option.{some}
 use Prim.Native.Nat.{ℕ, _≤_, _<_}
 use lib.ListN.{getElem?}
-use Rattle.algebra.specs.Semirings.{StarSemiring}
+use Rattle.algebra.specs.Semirings.{Arithmetic}
 use Rattle.algebra.specs.Matrices.{Matrix, _≈_, Shape}
 use Rattle.term.specs.Trees.{Tree}
 use Rattle.types.specs.Sorts.{Sort, index, basis, scalar, ket, bra, operator, Context}
 use Rattle.meaning.specs.Choices.{Choice, Meaning}
 use Rattle.meaning.specs.Meaning.{dimension}
 
-module _ {R : Type 0} (𝓡 : StarSemiring R) where
+module _ {R : Type 0} (𝓐 : Arithmetic R) where
   -- 01: "A ket is d rows by 1, a bra 1 by d, an operator of (S, T) is S rows by T columns, a scalar 1 by 1". An index and a basis are no matrices
   abbrev pub Shaped : Choice R → Sort → Matrix R → Type 0
   Shaped χ (index σ) A = Unit {0}
   Shaped χ (basis σ) A = Unit {0}
   Shaped χ scalar A = Shape A 1 1
-  Shaped χ (ket σ) A = Shape A (dimension 𝓡 χ σ) 1
-  Shaped χ (bra σ) A = Shape A 1 (dimension 𝓡 χ σ)
-  Shaped χ (operator σ τ) A = Shape A (dimension 𝓡 χ σ) (dimension 𝓡 χ τ)
+  Shaped χ (ket σ) A = Shape A (dimension 𝓐 χ σ) 1
+  Shaped χ (bra σ) A = Shape A 1 (dimension 𝓐 χ σ)
+  Shaped χ (operator σ τ) A = Shape A (dimension 𝓐 χ σ) (dimension 𝓐 χ τ)
 
   -- 01: "A type name has a dimension from 1 up", "A basis name is an index from 0 below its dimension", "for each variable, the matrix, shaped as declared"
   pub record Fits (Γ : Context) (χ : Choice R) : Type 0 where
     pub dimensions : (a : ℕ) → a < Γ .types → 1 ≤ χ .dimension a
-    pub positions : (a : ℕ) (σ : Tree) → getElem? (Γ .bases) a ≡ some σ → χ .position a < dimension 𝓡 χ σ
+    pub positions : (a : ℕ) (σ : Tree) → getElem? (Γ .bases) a ≡ some σ → χ .position a < dimension 𝓐 χ σ
     pub matrices : (a : ℕ) (S : Sort) → getElem? (Γ .variables) a ≡ some S → Shaped χ S (χ .matrix a)
 
   -- what a part of a sort must stand for
   abbrev pub Proper : Choice R → Sort → Meaning R → Type 0
-  Proper χ (index σ) x = x .dimension ≡ dimension 𝓡 χ σ
-  Proper χ (basis σ) x = (x .dimension ≡ dimension 𝓡 χ σ) × (x .position < dimension 𝓡 χ σ)
+  Proper χ (index σ) x = x .dimension ≡ dimension 𝓐 χ σ
+  Proper χ (basis σ) x = (x .dimension ≡ dimension 𝓐 χ σ) × (x .position < dimension 𝓐 χ σ)
   Proper χ scalar x = Shaped χ scalar (x .matrix)
   Proper χ (ket σ) x = Shaped χ (ket σ) (x .matrix)
   Proper χ (bra σ) x = Shaped χ (bra σ) (x .matrix)

@@ -1,10 +1,9 @@
--- What is proved of meanings, for every commutative semiring with an involution, and once more for the Gaussian integers.
+-- What is proved of meanings, whatever the entries are reckoned with, and once more for the Gaussian integers.
 use mathlib.Core.Path.{_≡_}
 use Prim.Native.Nat.{ℕ, _<_}
-use Rattle.algebra.specs.Semirings.{StarSemiring}
+use Rattle.algebra.specs.Semirings.{Arithmetic}
 use Rattle.algebra.specs.Matrices.{Matrix}
-use Rattle.algebra.specs.Gaussian.{Gaussian}
-use Rattle.algebra.proofs.Gaussian.{gaussian}
+use Rattle.algebra.specs.Gaussian.{Gaussian, gaussian}
 use Rattle.term.specs.Trees.{Tree, found, subtree, replace}
 use Rattle.types.specs.Sorts.{Sort, Context}
 use Rattle.types.specs.Rules.{_⊢_∶_, IsType, WellFormed}
@@ -12,18 +11,18 @@ use Rattle.meaning.specs.Choices.{Choice}
 use Rattle.meaning.specs.Meaning.{stands, mean}
 use Rattle.meaning.specs.Sorted.{Shaped, Proper, Fits, Same}
 
-module _ {R : Type 0} (𝓡 : StarSemiring R) where
+module _ {R : Type 0} (𝓐 : Arithmetic R) where
   -- a part of a sort stands for what its sort says: a term has the shape of its type, a basis lies below its dimension
   abbrev pub KeepsShape : Type 0
-  KeepsShape = (Γ : Context) (χ : Choice R) → WellFormed Γ → Fits 𝓡 Γ χ → (t : Tree) (S : Sort) → Γ ⊢ t ∶ S → Proper 𝓡 χ S (stands 𝓡 Γ χ t)
+  KeepsShape = (Γ : Context) (χ : Choice R) → WellFormed Γ → Fits 𝓐 Γ χ → (t : Tree) (S : Sort) → Γ ⊢ t ∶ S → Proper 𝓐 χ S (stands 𝓐 Γ χ t)
 
   -- where the part at an offset gives way to one of its sort that stands for the same, the whole keeps its sort and stands for the same
   abbrev pub Congruent : Type 0
   Congruent =
-      (Γ : Context) (χ : Choice R) → WellFormed Γ → Fits 𝓡 Γ χ
+      (Γ : Context) (χ : Choice R) → WellFormed Γ → Fits 𝓐 Γ χ
       → (t : Tree) (S : Sort) (at : ℕ) (s u : Tree) (Q : Sort)
-      → Γ ⊢ t ∶ S → subtree t at ≡ found s → Γ ⊢ s ∶ Q → Γ ⊢ u ∶ Q → Same Q (stands 𝓡 Γ χ s) (stands 𝓡 Γ χ u)
-      → (Γ ⊢ replace t at u ∶ S) × Same S (stands 𝓡 Γ χ t) (stands 𝓡 Γ χ (replace t at u))
+      → Γ ⊢ t ∶ S → subtree t at ≡ found s → Γ ⊢ s ∶ Q → Γ ⊢ u ∶ Q → Same Q (stands 𝓐 Γ χ s) (stands 𝓐 Γ χ u)
+      → (Γ ⊢ replace t at u ∶ S) × Same S (stands 𝓐 Γ χ t) (stands 𝓐 Γ χ (replace t at u))
 
 -- ---- over the Gaussian integers
 -- equal in shape, and in the number at each row and column: both its whole numbers

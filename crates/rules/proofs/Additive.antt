@@ -1,7 +1,7 @@
 -- Operations that are additive in a matrix of one shape.
 use mathlib.Core.Path.{_≡_, refl}
 use Prim.Native.Nat.{ℕ, _*_}
-use Rattle.algebra.specs.Semirings.{StarSemiring}
+use Rattle.algebra.specs.Semirings.{Arithmetic, StarSemiring}
 use Rattle.algebra.specs.Matrices.{Matrix, _≈_, Shape, number, scalar, add, scale, mul, adjoint, kronecker}
 use Rattle.algebra.proofs.Semirings.{add-mul}
 use Rattle.algebra.proofs.Alike.{≈-refl, ≡→≈, number-≈, everywhere, scale-≈, mul-≈, adjoint-≈, kronecker-≈}
@@ -10,58 +10,58 @@ use Rattle.algebra.proofs.Linear as Linear
 use Rattle.algebra.proofs.Products as Products
 use Rattle.algebra.proofs.Kronecker as Kronecker
 
-module _ {R : Type 0} (𝓡 : StarSemiring R) where
+module _ {R : Type 0} {𝓐 : Arithmetic R} (𝓡 : StarSemiring 𝓐) where
   -- from matrices of m by n to matrices of m′ by n′
   pub record Additive (m n m′ n′ : ℕ) (Φ : Matrix R → Matrix R) : Type 0 where
     pub shaped : (A : Matrix R) → Shape A m n → Shape (Φ A) m′ n′
     pub alike : (A B : Matrix R) → Shape A m n → A ≈ B → Φ A ≈ Φ B
-    pub adds : (A B : Matrix R) → Shape A m n → Shape B m n → Φ (add 𝓡 A B) ≈ add 𝓡 (Φ A) (Φ B)
+    pub adds : (A B : Matrix R) → Shape A m n → Shape B m n → Φ (add 𝓐 A B) ≈ add 𝓐 (Φ A) (Φ B)
 
-  pub times-right : {m n k : ℕ} (K : Matrix R) → Shape K n k → Additive m n m k (λ A. mul 𝓡 A K)
+  pub times-right : {m n k : ℕ} (K : Matrix R) → Shape K n k → Additive m n m k (λ A. mul 𝓐 A K)
   times-right K s =
       record {
-        shaped = λ A a. shape-mul 𝓡 a s;
-        alike = λ A B a p. mul-≈ 𝓡 (conformable a s) p (≈-refl K);
+        shaped = λ A a. shape-mul 𝓐 a s;
+        alike = λ A B a p. mul-≈ 𝓐 (conformable a s) p (≈-refl K);
         adds = λ A B a b. Products.add-mul 𝓡 A B K (same-columns a b);
       }
 
-  pub times-left : {m n k : ℕ} (O : Matrix R) → Shape O m n → Additive n k m k (λ A. mul 𝓡 O A)
+  pub times-left : {m n k : ℕ} (O : Matrix R) → Shape O m n → Additive n k m k (λ A. mul 𝓐 O A)
   times-left O s =
       record {
-        shaped = λ A a. shape-mul 𝓡 s a;
-        alike = λ A B a p. mul-≈ 𝓡 (conformable s a) (≈-refl O) p;
+        shaped = λ A a. shape-mul 𝓐 s a;
+        alike = λ A B a p. mul-≈ 𝓐 (conformable s a) (≈-refl O) p;
         adds = λ A B a b. Products.mul-add 𝓡 O A B;
       }
 
-  pub scaled : {m n : ℕ} (x : R) → Additive m n m n (λ A. scale 𝓡 x A)
+  pub scaled : {m n : ℕ} (x : R) → Additive m n m n (λ A. scale 𝓐 x A)
   scaled x =
-      record { shaped = λ A a. shape-scale 𝓡 x a; alike = λ A B a p. scale-≈ 𝓡 refl p; adds = λ A B a b. Linear.scale-add 𝓡 x A B }
+      record { shaped = λ A a. shape-scale 𝓐 x a; alike = λ A B a p. scale-≈ 𝓐 refl p; adds = λ A B a b. Linear.scale-add 𝓡 x A B }
 
-  pub adjoined : {m n : ℕ} → Additive m n n m (λ A. adjoint 𝓡 A)
-  adjoined = record { shaped = λ A a. shape-adjoint 𝓡 a; alike = λ A B a p. adjoint-≈ 𝓡 p; adds = λ A B a b. Linear.adjoint-add 𝓡 A B }
+  pub adjoined : {m n : ℕ} → Additive m n n m (λ A. adjoint 𝓐 A)
+  adjoined = record { shaped = λ A a. shape-adjoint 𝓐 a; alike = λ A B a p. adjoint-≈ 𝓐 p; adds = λ A B a b. Linear.adjoint-add 𝓡 A B }
 
-  pub kronecker-right : {m n k l : ℕ} (B : Matrix R) → Shape B k l → Additive m n (m * k) (n * l) (λ A. kronecker 𝓡 A B)
+  pub kronecker-right : {m n k l : ℕ} (B : Matrix R) → Shape B k l → Additive m n (m * k) (n * l) (λ A. kronecker 𝓐 A B)
   kronecker-right K s =
       record {
-        shaped = λ A a. shape-kronecker 𝓡 a s;
-        alike = λ A B a p. kronecker-≈ 𝓡 p (≈-refl K);
+        shaped = λ A a. shape-kronecker 𝓐 a s;
+        alike = λ A B a p. kronecker-≈ 𝓐 p (≈-refl K);
         adds = λ A B a b. Kronecker.add-kronecker 𝓡 A B K;
       }
 
-  pub kronecker-left : {m n k l : ℕ} (B : Matrix R) → Shape B k l → Additive m n (k * m) (l * n) (λ A. kronecker 𝓡 B A)
+  pub kronecker-left : {m n k l : ℕ} (B : Matrix R) → Shape B k l → Additive m n (k * m) (l * n) (λ A. kronecker 𝓐 B A)
   kronecker-left K s =
       record {
-        shaped = λ A a. shape-kronecker 𝓡 s a;
-        alike = λ A B a p. kronecker-≈ 𝓡 (≈-refl K) p;
+        shaped = λ A a. shape-kronecker 𝓐 s a;
+        alike = λ A B a p. kronecker-≈ 𝓐 (≈-refl K) p;
         adds = λ A B a b. Kronecker.kronecker-add 𝓡 K A B (same-rows a b) (same-columns a b);
       }
 
   -- a function of the number of a 1 by 1 matrix
-  pub numerical : (φ : R → R) → ((x y : R) → φ (𝓡 .add x y) ≡ 𝓡 .add (φ x) (φ y)) → Additive 1 1 1 1 (λ A. scalar 𝓡 (φ (number A)))
+  pub numerical : (φ : R → R) → ((x y : R) → φ (𝓐 .add x y) ≡ 𝓐 .add (φ x) (φ y)) → Additive 1 1 1 1 (λ A. scalar 𝓐 (φ (number A)))
   unfolding number add scalar
   numerical φ e =
       record {
-        shaped = λ A a. shape-scalar 𝓡 _;
+        shaped = λ A a. shape-scalar 𝓐 _;
         alike = λ A B a p. ≡→≈ (cc (number-≈ p (a .rows) (a .columns)));
         adds = λ A B a b. everywhere refl refl λ i j. e (number A) (number B);
       }

@@ -3,7 +3,7 @@ use mathlib.Core.Path.{_≡_}
 use mathlib.Core.Option.{some}
 use Prim.Native.Nat.{ℕ}
 use native.Mathlib.Omega.{arith}
-use Rattle.algebra.specs.Semirings.{StarSemiring}
+use Rattle.algebra.specs.Semirings.{Arithmetic, StarSemiring}
 use Rattle.algebra.specs.Matrices.{_≈_}
 use Rattle.term.specs.Heads.{Label, scalar-sum, scalar-product}
 use Rattle.term.specs.Trees.{Tree, Forest, node, none as no-tree, _▹_, _⧺_, count}
@@ -21,7 +21,7 @@ use Rattle.rules.proofs.Lines.{Law, given, value}
 use Rattle.rules.proofs.Meanings.{means-2, means-3, means-10, means-11, means-14, means-15, means-16, means-20, means-21, means-22, means-23, means-26, means-27, means-28, means-29, means-30, means-31, means-32, means-33, means-34, means-40, means-41, means-43, means-44, means-45, means-46, means-47, means-48, means-50, means-60, means-61, means-63, means-64, means-65, means-66, means-67, means-68, means-69, means-70, means-71, means-72, means-73, means-80, means-81, means-84, means-85, means-86, means-87, means-88, means-89, means-90, means-91, means-92, means-93, means-100, means-101, means-102, means-103, means-104, means-107, means-108, means-109, means-110, means-111, means-120, means-121, means-122, means-123, means-124, means-127, means-128, means-129, means-130, means-131, means-140, means-141, means-142, means-143, means-150, means-151, means-152, means-153, means-154, means-155, means-156, means-157, means-160, means-161, means-162}
 use Rattle.rules.proofs.Spreading.{First, Second, product-any, conjugate-sum, conjugate-product, dot-first, dot-second, scale-second, adjoint-first, tensor-first, tensor-second, mulk-first, mulk-second, mulb-first, mulb-second, outer-first, outer-second, mulo-first, mulo-second}
 
-module _ {R : Type 0} (𝓡 : StarSemiring R) {Γ : Context} {χ : Choice R} (W : WellFormed Γ) (F : Fits 𝓡 Γ χ) where
+module _ {R : Type 0} {𝓐 : Arithmetic R} (𝓡 : StarSemiring 𝓐) {Γ : Context} {χ : Choice R} (W : WellFormed Γ) (F : Fits 𝓐 Γ χ) where
   abbrev pub RuleMeans : Rule → Type 0
   RuleMeans r = (i j : ℕ) (p q : Tree) (S : Sort) → Instance Γ r i j p q → Γ ⊢ p ∶ S → value Γ 𝓡 χ p ≈ value Γ 𝓡 χ q
 

@@ -1,7 +1,7 @@
 -- The rules that are no equations keep the meaning of a typed part.
 use mathlib.Core.Path.{_≡_, sym, _∙_, ap}
 use Prim.Native.Nat.{_<_}
-use Rattle.algebra.specs.Semirings.{StarSemiring}
+use Rattle.algebra.specs.Semirings.{Arithmetic, StarSemiring}
 use Rattle.algebra.specs.Matrices.{_≈_, number, scalar as scalar-matrix, scale as scale-matrix, add as add-matrix}
 use Rattle.algebra.proofs.Alike.{≈-refl, ≈-sym, ≈-trans, ≡→≈, add-≈}
 use Rattle.algebra.proofs.Shapes.{same-rows, same-columns}
@@ -24,7 +24,7 @@ use Rattle.rules.proofs.Gatherings.{sums, products}
 use Rattle.rules.proofs.Gathered.{gather, gather-swap, gather-merge, gather-collect, sum-chain, whole-of, op-add}
 use Rattle.rules.proofs.Lines.{value}
 
-module _ {R : Type 0} (𝓡 : StarSemiring R) {Γ : Context} {χ : Choice R} (W : WellFormed Γ) (F : Fits 𝓡 Γ χ) where
+module _ {R : Type 0} {𝓐 : Arithmetic R} (𝓡 : StarSemiring 𝓐) {Γ : Context} {χ : Choice R} (W : WellFormed Γ) (F : Fits 𝓐 Γ χ) where
   -- a chain and what it becomes: the children come to the same
   module _ {l : Label} {S : Sort} (c : Chain l) where
     chain-means : (f g : Forest) → Γ ⊢ node l f ∶ S → Γ ⊢ node l g ∶ S
@@ -64,8 +64,8 @@ module _ {R : Type 0} (𝓡 : StarSemiring R) {Γ : Context} {χ : Choice R} (W 
         gather-merge 𝓡 W F S (w .G) (w .shaped) (r .front) (r .here) every-none (r .back) (unit o (r .here))
 
   -- ---- 51 to 54
-  -- a summand is shape 𝓡 W F factor times shape 𝓡 W F X
-  summand-value : (u : Summand) (p x : Tree) → value Γ 𝓡 χ (summand u p x) ≈ scale-matrix 𝓡 (number (value Γ 𝓡 χ (factor u p))) (value Γ 𝓡 χ x)
+  -- a summand is shape 𝓐 W F factor times shape 𝓐 W F X
+  summand-value : (u : Summand) (p x : Tree) → value Γ 𝓡 χ (summand u p x) ≈ scale-matrix 𝓐 (number (value Γ 𝓡 χ (factor u p))) (value Γ 𝓡 χ x)
   unfolding value number scalar-matrix
   summand-value plain p x = ≈-sym (scale-one 𝓡 _)
   summand-value scaled p x = ≈-refl _
@@ -79,7 +79,7 @@ module _ {R : Type 0} (𝓡 : StarSemiring R) {Γ : Context} {χ : Choice R} (W 
       let s = w .shaped _ a in
       let t = w .shaped _ b in
       rw (op-add 𝓡 W F arrays o)
-      (≈-trans (add-≈ 𝓡 (same-rows s t) (same-columns s t) (summand-value u p x) (summand-value v q x))
+      (≈-trans (add-≈ 𝓐 (same-rows s t) (same-columns s t) (summand-value u p x) (summand-value v q x))
       (≈-sym (add-scale 𝓡 (number (value Γ 𝓡 χ (factor u p))) (number (value Γ 𝓡 χ (factor v q))) (value Γ 𝓡 χ x))))
 
   pub collect-means : {S : Sort} (u v : Summand) (b m e : Forest) (p q x : Tree) (d : Γ ⊢ node add (b ⧺ summand u p x ▹ m ⧺ summand v q x ▹ e) ∶ S)
@@ -99,16 +99,16 @@ module _ {R : Type 0} (𝓡 : StarSemiring R) {Γ : Context} {χ : Choice R} (W 
   unfolding value whole-of sum-chain sums products
   unit-value scalar-zeros of-sum sca-0 = ≈-sym (Scalars.scalar-zero 𝓡)
   unit-value scalar-ones of-product sca-1 = ≈-refl _
-  unit-value ket-zeros of-kets (ket-0 a) = ≡→≈ (cc (shape 𝓡 W F a))
-  unit-value bra-zeros of-bras (bra-0 a) = ≡→≈ (cc (shape 𝓡 W F a))
-  unit-value operator-zeros of-operators (opt-0 a b) = ≡→≈ (cc (shape 𝓡 W F a, shape 𝓡 W F b))
+  unit-value ket-zeros of-kets (ket-0 a) = ≡→≈ (cc (shape 𝓐 W F a))
+  unit-value bra-zeros of-bras (bra-0 a) = ≡→≈ (cc (shape 𝓐 W F a))
+  unit-value operator-zeros of-operators (opt-0 a b) = ≡→≈ (cc (shape 𝓐 W F a, shape 𝓐 W F b))
 
   -- ---- 5 and 7: one factor among others
-  pub times-around : (b : Forest) (t : Tree) (a : Forest) → times 𝓡 (stands* 𝓡 Γ χ (b ⧺ t ▹ a)) ≡ 𝓡 .mul (times 𝓡 (stands* 𝓡 Γ χ b)) (𝓡 .mul (number (value Γ 𝓡 χ t)) (times 𝓡 (stands* 𝓡 Γ χ a)))
+  pub times-around : (b : Forest) (t : Tree) (a : Forest) → times 𝓐 (stands* 𝓐 Γ χ (b ⧺ t ▹ a)) ≡ 𝓐 .mul (times 𝓐 (stands* 𝓐 Γ χ b)) (𝓐 .mul (number (value Γ 𝓡 χ t)) (times 𝓐 (stands* 𝓐 Γ χ a)))
   unfolding value _⧺_
   times-around none t a = sym (one-mul 𝓡 _)
-  times-around (s ▹ b) t a = ap (𝓡 .mul (number (value Γ 𝓡 χ s))) (times-around b t a) ∙ sym (𝓡 .mul-assoc _ _ _)
+  times-around (s ▹ b) t a = ap (𝓐 .mul (number (value Γ 𝓡 χ s))) (times-around b t a) ∙ sym (𝓡 .mul-assoc _ _ _)
 
   pub absorb-means : (b a : Forest) → value Γ 𝓡 χ (node scalar-product (b ⧺ node scalar-zero none ▹ a)) ≈ value Γ 𝓡 χ (node scalar-zero none)
   unfolding value number scalar-matrix
-  absorb-means b a = ≡→≈ (ap (scalar-matrix 𝓡) (times-around b (node scalar-zero none) a ∙ cc (zero-mul 𝓡 (times 𝓡 (stands* 𝓡 Γ χ a)), 𝓡 .mul-zero (times 𝓡 (stands* 𝓡 Γ χ b)))))
+  absorb-means b a = ≡→≈ (ap (scalar-matrix 𝓐) (times-around b (node scalar-zero none) a ∙ cc (zero-mul 𝓡 (times 𝓐 (stands* 𝓐 Γ χ a)), 𝓡 .mul-zero (times 𝓐 (stands* 𝓐 Γ χ b)))))

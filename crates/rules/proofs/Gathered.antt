@@ -3,7 +3,7 @@ use mathlib.Core.Path.{_≡_, refl}
 use mathlib.Core.List.{List}
 use Prim.Native.Nat.{ℕ, _<_}
 use native.Mathlib.Omega.{arith}
-use Rattle.algebra.specs.Semirings.{StarSemiring}
+use Rattle.algebra.specs.Semirings.{Arithmetic, StarSemiring}
 use Rattle.algebra.specs.Matrices.{Matrix, _≈_, Shape, number, scalar as scalar-matrix, add as add-matrix}
 use Rattle.algebra.proofs.Alike.{≈-refl, ≈-sym, ≈-trans, ≡→≈, number-≈}
 use Rattle.term.specs.Heads.{Label, scalar-sum, add}
@@ -19,7 +19,7 @@ use Rattle.rules.proofs.Forests.{Sum, scalars, arrays, Of, of-sum, of-p
 use Rattle.rules.proofs.Gatherings.{Gathering, sums, products, exchange, unit-op}
 use Rattle.rules.proofs.Lines.{value}
 
-module _ {R : Type 0} (𝓡 : StarSemiring R) {Γ : Context} {χ : Choice R} (W : WellFormed Γ) (F : Fits 𝓡 Γ χ) where
+module _ {R : Type 0} {𝓐 : Arithmetic R} (𝓡 : StarSemiring 𝓐) {Γ : Context} {χ : Choice R} (W : WellFormed Γ) (F : Fits 𝓐 Γ χ) where
   module _ (S : Sort) {m n : ℕ} (G : Gathering R m n) (shaped : (t : Tree) → Γ ⊢ t ∶ S → Shape (value Γ 𝓡 χ t) m n) where
     unfoldable pub gather : Forest → Matrix R
     gather none = G .unit
@@ -97,17 +97,17 @@ module _ {R : Type 0} (𝓡 : StarSemiring R) {Γ : Context} {χ : Choice R} (W 
     pub whole : (f : Forest) → 0 < count f → Γ ⊢* f ∶ S → value Γ 𝓡 χ (node l f) ≈ gather S G shaped f
 
   abbrev all : Forest → List (Meaning R)
-  all f = meanings 𝓡 (names 𝓡 Γ χ) f
+  all f = meanings 𝓐 (names 𝓐 Γ χ) f
 
   module _ (S : Sort) {m n : ℕ} (shaped : (t : Tree) → Γ ⊢ t ∶ S → Shape (value Γ 𝓡 χ t) m n) where
-    pub sum-whole : {f : Forest} (A : Matrix R) → Shape A m n → Γ ⊢* f ∶ S → plus 𝓡 A (all f) ≈ sums 𝓡 m n .op A (gather S (sums 𝓡 m n) shaped f)
+    pub sum-whole : {f : Forest} (A : Matrix R) → Shape A m n → Γ ⊢* f ∶ S → plus 𝓐 A (all f) ≈ sums 𝓡 m n .op A (gather S (sums 𝓡 m n) shaped f)
     unfolding gather sums value
     sum-whole A a every-none = ≈-sym (sums 𝓡 m n .op-unit A a)
     sum-whole {f = t ▹ f} A a (every-more d xs) =
-        sums 𝓡 m n .op-≈ _ _ _ _ a (plus-shape 𝓡 (all f) (shaped t d)) (≈-refl A) (sum-whole (value Γ 𝓡 χ t) (shaped t d) xs)
+        sums 𝓡 m n .op-≈ _ _ _ _ a (plus-shape 𝓐 (all f) (shaped t d)) (≈-refl A) (sum-whole (value Γ 𝓡 χ t) (shaped t d) xs)
 
     -- the head is that of a sum: what it stands for is the total
-    unfoldable pub sum-chain : (l : Label) → ((t : Tree) (f : Forest) → value Γ 𝓡 χ (node l (t ▹ f)) ≡ plus 𝓡 (value Γ 𝓡 χ t) (all f)) → Whole l S
+    unfoldable pub sum-chain : (l : Label) → ((t : Tree) (f : Forest) → value Γ 𝓡 χ (node l (t ▹ f)) ≡ plus 𝓐 (value Γ 𝓡 χ t) (all f)) → Whole l S
     unfolding gather sums count
     sum-chain l total = record { m = m; n = n; G = sums 𝓡 m n; shaped = shaped; whole = sum-of }
       where
@@ -117,9 +117,9 @@ module _ {R : Type 0} (𝓡 : StarSemiring R) {Γ : Context} {χ : Choice R} (W 
 
   pub scalar-shape : (t : Tree) → Γ ⊢ t ∶ scalar → Shape (value Γ 𝓡 χ t) 1 1
   unfolding value
-  scalar-shape t d = shape 𝓡 W F d
+  scalar-shape t d = shape 𝓐 W F d
 
-  pub times-whole : {f : Forest} → Γ ⊢* f ∶ scalar → scalar-matrix 𝓡 (times 𝓡 (all f)) ≈ gather scalar (products 𝓡) scalar-shape f
+  pub times-whole : {f : Forest} → Γ ⊢* f ∶ scalar → scalar-matrix 𝓐 (times 𝓐 (all f)) ≈ gather scalar (products 𝓡) scalar-shape f
   unfolding gather products value scalar-matrix number
   times-whole every-none = ≈-refl _
   times-whole (every-more d xs) = ≡→≈ (cc (number-≈ (times-whole xs) refl refl))
@@ -128,12 +128,12 @@ module _ {R : Type 0} (𝓡 : StarSemiring R) {Γ : Context} {χ : Choice R} (W 
   unfolding value
   whole-of of-sum = sum-chain scalar scalar-shape scalar-sum (λ t f. refl)
   whole-of of-product = record { m = 1; n = 1; G = products 𝓡; shaped = scalar-shape; whole = λ f h xs. times-whole xs }
-  whole-of of-kets = sum-chain (ket _) (λ t d. shape 𝓡 W F d) add (λ t f. refl)
-  whole-of of-bras = sum-chain (bra _) (λ t d. shape 𝓡 W F d) add (λ t f. refl)
-  whole-of of-operators = sum-chain (operator _ _) (λ t d. shape 𝓡 W F d) add (λ t f. refl)
+  whole-of of-kets = sum-chain (ket _) (λ t d. shape 𝓐 W F d) add (λ t f. refl)
+  whole-of of-bras = sum-chain (bra _) (λ t d. shape 𝓐 W F d) add (λ t f. refl)
+  whole-of of-operators = sum-chain (operator _ _) (λ t d. shape 𝓐 W F d) add (λ t f. refl)
 
   -- the operation of a sum adds
-  pub op-add : {l : Label} {S : Sort} → Sum l → (o : Of l S) → whole-of o .G .op ≡ add-matrix 𝓡
+  pub op-add : {l : Label} {S : Sort} → Sum l → (o : Of l S) → whole-of o .G .op ≡ add-matrix 𝓐
   unfolding whole-of sum-chain sums
   op-add scalars of-sum = refl
   op-add arrays of-kets = refl

@@ -1,7 +1,7 @@
 -- Sums and products of many as one thing: a commutative operation with a unit, up to `_≈_`, on matrices of one shape.
 use mathlib.Core.Path.{refl}
 use Prim.Native.Nat.{ℕ}
-use Rattle.algebra.specs.Semirings.{StarSemiring}
+use Rattle.algebra.specs.Semirings.{Arithmetic, StarSemiring}
 use Rattle.algebra.specs.Matrices.{Matrix, _≈_, Shape, number, zeros, scalar, add}
 use Rattle.algebra.proofs.Alike.{≈-refl, ≈-sym, ≈-trans, ≡→≈, number-≈, add-≈}
 use Rattle.algebra.proofs.Linear.{add-assoc, add-comm, add-zeros}
@@ -18,15 +18,15 @@ pub record Gathering (R : Type 0) (m n : ℕ) : Type 0 where
   pub comm : (A B : Matrix R) → Shape A m n → Shape B m n → op A B ≈ op B A
   pub op-unit : (A : Matrix R) → Shape A m n → op A unit ≈ A
 
-module _ {R : Type 0} (𝓡 : StarSemiring R) where
+module _ {R : Type 0} {𝓐 : Arithmetic R} (𝓡 : StarSemiring 𝓐) where
   unfoldable pub sums : (m n : ℕ) → Gathering R m n
   sums m n =
       record {
-        op = add 𝓡;
-        unit = zeros 𝓡 m n;
-        op-shape = λ A B a b. shape-add 𝓡 B a;
-        unit-shape = shape-zeros 𝓡 refl refl;
-        op-≈ = λ A A′ B B′ a b p q. add-≈ 𝓡 (same-rows a b) (same-columns a b) p q;
+        op = add 𝓐;
+        unit = zeros 𝓐 m n;
+        op-shape = λ A B a b. shape-add 𝓐 B a;
+        unit-shape = shape-zeros 𝓐 refl refl;
+        op-≈ = λ A A′ B B′ a b p q. add-≈ 𝓐 (same-rows a b) (same-columns a b) p q;
         assoc = add-assoc 𝓡;
         comm = λ A B a b. add-comm 𝓡 A B (same-rows a b) (same-columns a b);
         op-unit = λ A a. add-zeros 𝓡 A m n;
@@ -36,10 +36,10 @@ module _ {R : Type 0} (𝓡 : StarSemiring R) where
   unfolding number scalar
   products =
       record {
-        op = λ A B. scalar 𝓡 (𝓡 .mul (number A) (number B));
-        unit = scalar 𝓡 (𝓡 .one);
-        op-shape = λ A B a b. shape-scalar 𝓡 _;
-        unit-shape = shape-scalar 𝓡 _;
+        op = λ A B. scalar 𝓐 (𝓐 .mul (number A) (number B));
+        unit = scalar 𝓐 (𝓐 .one);
+        op-shape = λ A B a b. shape-scalar 𝓐 _;
+        unit-shape = shape-scalar 𝓐 _;
         op-≈ = λ A A′ B B′ a b p q. ≡→≈ (cc (number-≈ p (a .rows) (a .columns), number-≈ q (b .rows) (b .columns)));
         assoc = λ A B C. ≡→≈ (cc (𝓡 .mul-assoc (number A) (number B) (number C)));
         comm = λ A B a b. ≡→≈ (cc (𝓡 .mul-comm (number A) (number B)));

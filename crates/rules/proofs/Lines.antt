@@ -4,7 +4,7 @@ use mathlib.Core.Bool.{true, false}
 use mathlib.Core.Option.{Option, some, none}
 use Prim.Native.Nat.{ℕ}
 use native.Mathlib.Omega.{arith}
-use Rattle.algebra.specs.Semirings.{StarSemiring}
+use Rattle.algebra.specs.Semirings.{Arithmetic, StarSemiring}
 use Rattle.algebra.specs.Matrices.{Matrix, _≈_}
 use Rattle.term.specs.Trees.{Tree}
 use Rattle.types.specs.Sorts.{Sort, Context}
@@ -54,11 +54,11 @@ module _ (Γ : Context) where
   abbrev pub Keeps : ℕ → Type 0
   Keeps n = Law (λ p q S. Γ ⊢ p ∶ S → Γ ⊢ q ∶ S) (find n table)
 
-module _ (Γ : Context) {R : Type 0} (𝓡 : StarSemiring R) (χ : Choice R) where
+module _ (Γ : Context) {R : Type 0} {𝓐 : Arithmetic R} (𝓡 : StarSemiring 𝓐) (χ : Choice R) where
   -- the matrix of a term, under a name that opens with all that it is made of
   unfoldable pub value : Tree → Matrix R
   unfolding mean stands meaning meaningOf first second plus total times product a-term an-index a-basis
-  value t = mean 𝓡 Γ χ t
+  value t = mean 𝓐 Γ χ t
 
   -- the two sides stand for the same matrix
   abbrev pub Means : ℕ → Type 0

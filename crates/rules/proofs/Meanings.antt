@@ -2,7 +2,7 @@
 use mathlib.Core.Path.{_≡_, sym, _∙_, ap}
 use Prim.Native.Nat.{ℕ, _<_}
 use native.Mathlib.Nat.{one-mul, mul-one}
-use Rattle.algebra.specs.Semirings.{StarSemiring}
+use Rattle.algebra.specs.Semirings.{Arithmetic, StarSemiring}
 use Rattle.algebra.proofs.Semirings as Semirings
 use Rattle.algebra.proofs.Deltas as Deltas
 use Rattle.algebra.proofs.Alike.{≈-refl, ≈-sym, ≈-trans, scale-≈}
@@ -23,34 +23,34 @@ use Rattle.meaning.proofs.Shapes.{shape}
 use Rattle.rules.specs.Patterns.{firstIndex, secondIndex, sortOf}
 use Rattle.rules.proofs.Lines.{not-so, sort-is, value, Means}
 
-module _ {R : Type 0} (𝓡 : StarSemiring R) {Γ : Context} {χ : Choice R} (W : WellFormed Γ) (F : Fits 𝓡 Γ χ) where
-  open StarSemiring 𝓡 using (zero as 𝟘, one as 𝟙, conj)
+module _ {R : Type 0} {𝓐 : Arithmetic R} (𝓡 : StarSemiring 𝓐) {Γ : Context} {χ : Choice R} (W : WellFormed Γ) (F : Fits 𝓐 Γ χ) where
+  open Arithmetic 𝓐 using (zero as 𝟘, one as 𝟙, conj)
 
   -- the shape of what a typed part stands for
-  abbrev its : {t : Tree} {S : Sort} → Γ ⊢ t ∶ S → Proper 𝓡 χ S (stands 𝓡 Γ χ t)
-  its = shape 𝓡 W F
+  abbrev its : {t : Tree} {S : Sort} → Γ ⊢ t ∶ S → Proper 𝓐 χ S (stands 𝓐 Γ χ t)
+  its = shape 𝓐 W F
 
   -- a basis lies below the dimension that it stands for
-  below : {t σ : Tree} → Γ ⊢ t ∶ basis σ → stands 𝓡 Γ χ t .position < stands 𝓡 Γ χ t .dimension
+  below : {t σ : Tree} → Γ ⊢ t ∶ basis σ → stands 𝓐 Γ χ t .position < stands 𝓐 Γ χ t .dimension
   below a = rw (its a .0) (its a .1)
 
   -- the dimensions of the indices of a type, and the shape of a part by the indices that `first` and `second` name
   abbrev first-dimension : Sort → ℕ
-  first-dimension S = stands 𝓡 Γ χ (firstIndex S) .dimension
+  first-dimension S = stands 𝓐 Γ χ (firstIndex S) .dimension
 
   abbrev second-dimension : Sort → ℕ
-  second-dimension S = stands 𝓡 Γ χ (secondIndex S) .dimension
+  second-dimension S = stands 𝓐 Γ χ (secondIndex S) .dimension
 
-  ket-rows : {t σ : Tree} → Γ ⊢ t ∶ ket σ → stands 𝓡 Γ χ t .matrix .rows ≡ first-dimension (sortOf Γ t)
+  ket-rows : {t σ : Tree} → Γ ⊢ t ∶ ket σ → stands 𝓐 Γ χ t .matrix .rows ≡ first-dimension (sortOf Γ t)
   ket-rows a = its a .rows ∙ sym (ap first-dimension (sort-is Γ a) ∙ its (proper W a))
 
-  bra-columns : {t σ : Tree} → Γ ⊢ t ∶ bra σ → stands 𝓡 Γ χ t .matrix .columns ≡ first-dimension (sortOf Γ t)
+  bra-columns : {t σ : Tree} → Γ ⊢ t ∶ bra σ → stands 𝓐 Γ χ t .matrix .columns ≡ first-dimension (sortOf Γ t)
   bra-columns a = its a .columns ∙ sym (ap first-dimension (sort-is Γ a) ∙ its (proper W a))
 
-  operator-rows : {t σ τ : Tree} → Γ ⊢ t ∶ operator σ τ → stands 𝓡 Γ χ t .matrix .rows ≡ first-dimension (sortOf Γ t)
+  operator-rows : {t σ τ : Tree} → Γ ⊢ t ∶ operator σ τ → stands 𝓐 Γ χ t .matrix .rows ≡ first-dimension (sortOf Γ t)
   operator-rows a = its a .rows ∙ sym (ap first-dimension (sort-is Γ a) ∙ its (proper W a .0))
 
-  operator-columns : {t σ τ : Tree} → Γ ⊢ t ∶ operator σ τ → stands 𝓡 Γ χ t .matrix .columns ≡ second-dimension (sortOf Γ t)
+  operator-columns : {t σ τ : Tree} → Γ ⊢ t ∶ operator σ τ → stands 𝓐 Γ χ t .matrix .columns ≡ second-dimension (sortOf Γ t)
   operator-columns a = its a .columns ∙ sym (ap second-dimension (sort-is Γ a) ∙ its (proper W a .1))
 
   -- ---- table 2
@@ -146,11 +146,11 @@ module _ {R : Type 0} (𝓡 : StarSemiring R) {Γ : Context} {χ : Choice R} (W 
   -- ---- table 4
   pub means-40 : Means Γ 𝓡 χ 40
   unfolding value
-  means-40 θ S d = ≈-trans (scale-≈ 𝓡 (number-scalar 𝓡 𝟙) (≈-refl _)) (Linear.scale-one 𝓡 _)
+  means-40 θ S d = ≈-trans (scale-≈ 𝓐 (number-scalar 𝓡 𝟙) (≈-refl _)) (Linear.scale-one 𝓡 _)
 
   pub means-41 : Means Γ 𝓡 χ 41
   unfolding value
-  means-41 θ S d = ≈-trans (Linear.scale-scale 𝓡 _ _ _) (scale-≈ 𝓡 (number-both 𝓡 _ _) (≈-refl _))
+  means-41 θ S d = ≈-trans (Linear.scale-scale 𝓡 _ _ _) (scale-≈ 𝓐 (number-both 𝓡 _ _) (≈-refl _))
 
   pub means-43 : Means Γ 𝓡 χ 43
   unfolding value
@@ -194,7 +194,7 @@ module _ {R : Type 0} (𝓡 : StarSemiring R) {Γ : Context} {χ : Choice R} (W 
 
   pub means-61 : Means Γ 𝓡 χ 61
   unfolding value
-  means-61 θ S d = ≈-trans (Linear.adjoint-scale 𝓡 _ _) (scale-≈ 𝓡 (sym (number-scalar 𝓡 _)) (≈-refl _))
+  means-61 θ S d = ≈-trans (Linear.adjoint-scale 𝓡 _ _) (scale-≈ 𝓐 (sym (number-scalar 𝓡 _)) (≈-refl _))
 
   pub means-63 : Means Γ 𝓡 χ 63
   unfolding value

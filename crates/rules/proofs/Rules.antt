@@ -1,5 +1,5 @@
 -- The witnesses of what `specs/Statements` says of the rules.
-use Rattle.algebra.specs.Semirings.{StarSemiring}
+use Rattle.algebra.specs.Semirings.{Arithmetic, StarSemiring}
 use Rattle.term.specs.Trees.{Tree}
 use Rattle.types.specs.Sorts.{Sort, Context, _⊠_, Short}
 use Rattle.types.specs.Rules.{_⊢_∶_, base-prod, WellFormed}
@@ -27,6 +27,6 @@ keeps-type Γ W n r e i j p q x S d =
     let k = rule-keeps W n r e i j p q S x d in
     (k, λ at σ τ f. product-short W (part-typed W q at (σ ⊠ τ) S k f .1))
 
-pub keeps-meaning : {R : Type 0} (𝓡 : StarSemiring R) → KeepsMeaning 𝓡
+pub keeps-meaning : {R : Type 0} {𝓐 : Arithmetic R} (𝓡 : StarSemiring 𝓐) → KeepsMeaning 𝓡
 unfolding value
 keeps-meaning 𝓡 Γ χ W F n r e i j p q x S d = rule-means 𝓡 W F n r e i j p q S x d

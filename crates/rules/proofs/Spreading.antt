@@ -2,7 +2,7 @@
 use mathlib.Core.Path.{_≡_, refl, ap}
 use Prim.Native.Nat.{_<_}
 use native.Mathlib.Omega.{arith}
-use Rattle.algebra.specs.Semirings.{StarSemiring}
+use Rattle.algebra.specs.Semirings.{Arithmetic, StarSemiring}
 use Rattle.algebra.specs.Matrices.{Matrix, _≈_, Shape, number, scalar as scalar-matrix, scale as scale-matrix, mul, adjoint as adjoint-matrix, kronecker}
 use Rattle.algebra.proofs.Semirings.{add-mul}
 use Rattle.algebra.proofs.Alike.{≈-refl, ≈-sym, ≈-trans, ≡→≈, number-≈}
@@ -24,7 +24,7 @@ use Rattle.rules.proofs.Gatherings.{products}
 use Rattle.rules.proofs.Gathered.{gather, gather-shape, sum-chain, Whole, whole-of, op-add}
 use Rattle.rules.proofs.Lines.{value}
 
-module _ {R : Type 0} (𝓡 : StarSemiring R) {Γ : Context} {χ : Choice R} (W : WellFormed Γ) (F : Fits 𝓡 Γ χ) where
+module _ {R : Type 0} {𝓐 : Arithmetic R} (𝓡 : StarSemiring 𝓐) {Γ : Context} {χ : Choice R} (W : WellFormed Γ) (F : Fits 𝓐 Γ χ) where
   -- from one chain's operation to another's
   pub record Carries {s r : Label} {T S : Sort} (w : Whole 𝓡 W F s T) (v : Whole 𝓡 W F r S) (Φ : Matrix R → Matrix R) : Type 0 where
     pub shaped : (A : Matrix R) → Shape A (w .m) (w .n) → Shape (Φ A) (v .m) (v .n)
@@ -58,7 +58,7 @@ module _ {R : Type 0} (𝓡 : StarSemiring R) {Γ : Context} {χ : Choice R} (W 
       → (let w = whole-of 𝓡 W F o in let v = whole-of 𝓡 W F q in Additive 𝓡 (w .m) (w .n) (v .m) (v .n) Φ) → Carries (whole-of 𝓡 W F o) (whole-of 𝓡 W F q) Φ
   additive x o y q Φ A = record { shaped = A .shaped; alike = A .alike; carries = rw (op-add 𝓡 W F x o, op-add 𝓡 W F y q) (A .adds) }
 
-  -- a head that is additive in shape 𝓡 W F child, a sum
+  -- a head that is additive in shape 𝓐 W F child, a sum
   sum-spreads : (l : Label) {s r : Label} {T S : Sort} (b f a : Forest) → Sum s → (o : Of s T) → Sum r → (q : Of r S) → (Φ : Matrix R → Matrix R)
       → ((u : Tree) → value Γ 𝓡 χ (node l (b ⧺ u ▹ a)) ≡ Φ (value Γ 𝓡 χ u)) → ((u : Tree) → Γ ⊢ u ∶ T → Γ ⊢ node l (b ⧺ u ▹ a) ∶ S)
       → (let w = whole-of 𝓡 W F o in let v = whole-of 𝓡 W F q in Additive 𝓡 (w .m) (w .n) (v .m) (v .n) Φ)
@@ -76,93 +76,93 @@ module _ {R : Type 0} (𝓡 : StarSemiring R) {Γ : Context} {χ : Choice R} (W 
 
   pub dot-first : First dot add scalar-sum
   unfolding value whole-of sum-chain _⧺_
-  dot-first S f a (sca-dot x y) = sum-spreads dot none f a arrays of-bras scalars of-sum (λ A. mul 𝓡 A _) (λ u. refl) (λ u e. sca-dot e y) (times-right 𝓡 _ (shape 𝓡 W F y)) x
+  dot-first S f a (sca-dot x y) = sum-spreads dot none f a arrays of-bras scalars of-sum (λ A. mul 𝓐 A _) (λ u. refl) (λ u e. sca-dot e y) (times-right 𝓡 _ (shape 𝓐 W F y)) x
 
   pub dot-second : Second dot add scalar-sum
   unfolding value whole-of sum-chain _⧺_
   dot-second S t f a (sca-dot x y) =
-      sum-spreads dot (t ▹ none) f a arrays of-kets scalars of-sum (λ A. mul 𝓡 _ A) (λ u. refl) (λ u e. sca-dot x e) (times-left 𝓡 _ (shape 𝓡 W F x)) y
+      sum-spreads dot (t ▹ none) f a arrays of-kets scalars of-sum (λ A. mul 𝓐 _ A) (λ u. refl) (λ u e. sca-dot x e) (times-left 𝓡 _ (shape 𝓐 W F x)) y
 
   pub mulk-first : First mulk add add
   unfolding value whole-of sum-chain _⧺_
-  mulk-first S f a (ket-mulk x y) = sum-spreads mulk none f a arrays of-operators arrays of-kets (λ A. mul 𝓡 A _) (λ u. refl) (λ u e. ket-mulk e y) (times-right 𝓡 _ (shape 𝓡 W F y)) x
+  mulk-first S f a (ket-mulk x y) = sum-spreads mulk none f a arrays of-operators arrays of-kets (λ A. mul 𝓐 A _) (λ u. refl) (λ u e. ket-mulk e y) (times-right 𝓡 _ (shape 𝓐 W F y)) x
 
   pub mulk-second : Second mulk add add
   unfolding value whole-of sum-chain _⧺_
   mulk-second S t f a (ket-mulk x y) =
-      sum-spreads mulk (t ▹ none) f a arrays of-kets arrays of-kets (λ A. mul 𝓡 _ A) (λ u. refl) (λ u e. ket-mulk x e) (times-left 𝓡 _ (shape 𝓡 W F x)) y
+      sum-spreads mulk (t ▹ none) f a arrays of-kets arrays of-kets (λ A. mul 𝓐 _ A) (λ u. refl) (λ u e. ket-mulk x e) (times-left 𝓡 _ (shape 𝓐 W F x)) y
 
   pub mulb-first : First mulb add add
   unfolding value whole-of sum-chain _⧺_
-  mulb-first S f a (bra-mulb x y) = sum-spreads mulb none f a arrays of-bras arrays of-bras (λ A. mul 𝓡 A _) (λ u. refl) (λ u e. bra-mulb e y) (times-right 𝓡 _ (shape 𝓡 W F y)) x
+  mulb-first S f a (bra-mulb x y) = sum-spreads mulb none f a arrays of-bras arrays of-bras (λ A. mul 𝓐 A _) (λ u. refl) (λ u e. bra-mulb e y) (times-right 𝓡 _ (shape 𝓐 W F y)) x
 
   pub mulb-second : Second mulb add add
   unfolding value whole-of sum-chain _⧺_
   mulb-second S t f a (bra-mulb x y) =
-      sum-spreads mulb (t ▹ none) f a arrays of-operators arrays of-bras (λ A. mul 𝓡 _ A) (λ u. refl) (λ u e. bra-mulb x e) (times-left 𝓡 _ (shape 𝓡 W F x)) y
+      sum-spreads mulb (t ▹ none) f a arrays of-operators arrays of-bras (λ A. mul 𝓐 _ A) (λ u. refl) (λ u e. bra-mulb x e) (times-left 𝓡 _ (shape 𝓐 W F x)) y
 
   pub outer-first : First outer add add
   unfolding value whole-of sum-chain _⧺_
-  outer-first S f a (opt-outer x y) = sum-spreads outer none f a arrays of-kets arrays of-operators (λ A. mul 𝓡 A _) (λ u. refl) (λ u e. opt-outer e y) (times-right 𝓡 _ (shape 𝓡 W F y)) x
+  outer-first S f a (opt-outer x y) = sum-spreads outer none f a arrays of-kets arrays of-operators (λ A. mul 𝓐 A _) (λ u. refl) (λ u e. opt-outer e y) (times-right 𝓡 _ (shape 𝓐 W F y)) x
 
   pub outer-second : Second outer add add
   unfolding value whole-of sum-chain _⧺_
   outer-second S t f a (opt-outer x y) =
-      sum-spreads outer (t ▹ none) f a arrays of-bras arrays of-operators (λ A. mul 𝓡 _ A) (λ u. refl) (λ u e. opt-outer x e) (times-left 𝓡 _ (shape 𝓡 W F x)) y
+      sum-spreads outer (t ▹ none) f a arrays of-bras arrays of-operators (λ A. mul 𝓐 _ A) (λ u. refl) (λ u e. opt-outer x e) (times-left 𝓡 _ (shape 𝓐 W F x)) y
 
   pub mulo-first : First mulo add add
   unfolding value whole-of sum-chain _⧺_
-  mulo-first S f a (opt-mulo x y) = sum-spreads mulo none f a arrays of-operators arrays of-operators (λ A. mul 𝓡 A _) (λ u. refl) (λ u e. opt-mulo e y) (times-right 𝓡 _ (shape 𝓡 W F y)) x
+  mulo-first S f a (opt-mulo x y) = sum-spreads mulo none f a arrays of-operators arrays of-operators (λ A. mul 𝓐 A _) (λ u. refl) (λ u e. opt-mulo e y) (times-right 𝓡 _ (shape 𝓐 W F y)) x
 
   pub mulo-second : Second mulo add add
   unfolding value whole-of sum-chain _⧺_
   mulo-second S t f a (opt-mulo x y) =
-      sum-spreads mulo (t ▹ none) f a arrays of-operators arrays of-operators (λ A. mul 𝓡 _ A) (λ u. refl) (λ u e. opt-mulo x e) (times-left 𝓡 _ (shape 𝓡 W F x)) y
+      sum-spreads mulo (t ▹ none) f a arrays of-operators arrays of-operators (λ A. mul 𝓐 _ A) (λ u. refl) (λ u e. opt-mulo x e) (times-left 𝓡 _ (shape 𝓐 W F x)) y
 
   pub scale-second : Second scale add add
   unfolding value whole-of sum-chain _⧺_
-  scale-second S t f a (ket-scr x y) = sum-spreads scale (t ▹ none) f a arrays of-kets arrays of-kets (λ A. scale-matrix 𝓡 _ A) (λ u. refl) (λ u e. ket-scr x e) (scaled 𝓡 _) y
-  scale-second S t f a (bra-scr x y) = sum-spreads scale (t ▹ none) f a arrays of-bras arrays of-bras (λ A. scale-matrix 𝓡 _ A) (λ u. refl) (λ u e. bra-scr x e) (scaled 𝓡 _) y
-  scale-second S t f a (opt-scr x y) = sum-spreads scale (t ▹ none) f a arrays of-operators arrays of-operators (λ A. scale-matrix 𝓡 _ A) (λ u. refl) (λ u e. opt-scr x e) (scaled 𝓡 _) y
+  scale-second S t f a (ket-scr x y) = sum-spreads scale (t ▹ none) f a arrays of-kets arrays of-kets (λ A. scale-matrix 𝓐 _ A) (λ u. refl) (λ u e. ket-scr x e) (scaled 𝓡 _) y
+  scale-second S t f a (bra-scr x y) = sum-spreads scale (t ▹ none) f a arrays of-bras arrays of-bras (λ A. scale-matrix 𝓐 _ A) (λ u. refl) (λ u e. bra-scr x e) (scaled 𝓡 _) y
+  scale-second S t f a (opt-scr x y) = sum-spreads scale (t ▹ none) f a arrays of-operators arrays of-operators (λ A. scale-matrix 𝓐 _ A) (λ u. refl) (λ u e. opt-scr x e) (scaled 𝓡 _) y
 
   pub adjoint-first : First adjoint add add
   unfolding value whole-of sum-chain _⧺_
-  adjoint-first S f a (ket-adj x) = sum-spreads adjoint none f a arrays of-bras arrays of-kets (λ A. adjoint-matrix 𝓡 A) (λ u. refl) (λ u e. ket-adj e) (adjoined 𝓡) x
-  adjoint-first S f a (bra-adj x) = sum-spreads adjoint none f a arrays of-kets arrays of-bras (λ A. adjoint-matrix 𝓡 A) (λ u. refl) (λ u e. bra-adj e) (adjoined 𝓡) x
-  adjoint-first S f a (opt-adj x) = sum-spreads adjoint none f a arrays of-operators arrays of-operators (λ A. adjoint-matrix 𝓡 A) (λ u. refl) (λ u e. opt-adj e) (adjoined 𝓡) x
+  adjoint-first S f a (ket-adj x) = sum-spreads adjoint none f a arrays of-bras arrays of-kets (λ A. adjoint-matrix 𝓐 A) (λ u. refl) (λ u e. ket-adj e) (adjoined 𝓡) x
+  adjoint-first S f a (bra-adj x) = sum-spreads adjoint none f a arrays of-kets arrays of-bras (λ A. adjoint-matrix 𝓐 A) (λ u. refl) (λ u e. bra-adj e) (adjoined 𝓡) x
+  adjoint-first S f a (opt-adj x) = sum-spreads adjoint none f a arrays of-operators arrays of-operators (λ A. adjoint-matrix 𝓐 A) (λ u. refl) (λ u e. opt-adj e) (adjoined 𝓡) x
 
   pub tensor-first : First tensor add add
   unfolding value whole-of sum-chain _⧺_ dimension
-  tensor-first S f a (ket-tsr {L} x y h) = sum-spreads tensor none f a arrays of-kets arrays of-kets (λ A. kronecker 𝓡 A (value Γ 𝓡 χ L)) (λ u. refl) (λ u e. ket-tsr e y h) (kronecker-right 𝓡 _ (shape 𝓡 W F y)) x
-  tensor-first S f a (bra-tsr {C} x y h) = sum-spreads tensor none f a arrays of-bras arrays of-bras (λ A. kronecker 𝓡 A (value Γ 𝓡 χ C)) (λ u. refl) (λ u e. bra-tsr e y h) (kronecker-right 𝓡 _ (shape 𝓡 W F y)) x
-  tensor-first S f a (opt-tsr {P} x y h k) = sum-spreads tensor none f a arrays of-operators arrays of-operators (λ A. kronecker 𝓡 A (value Γ 𝓡 χ P)) (λ u. refl) (λ u e. opt-tsr e y h k) (kronecker-right 𝓡 _ (shape 𝓡 W F y)) x
+  tensor-first S f a (ket-tsr {L} x y h) = sum-spreads tensor none f a arrays of-kets arrays of-kets (λ A. kronecker 𝓐 A (value Γ 𝓡 χ L)) (λ u. refl) (λ u e. ket-tsr e y h) (kronecker-right 𝓡 _ (shape 𝓐 W F y)) x
+  tensor-first S f a (bra-tsr {C} x y h) = sum-spreads tensor none f a arrays of-bras arrays of-bras (λ A. kronecker 𝓐 A (value Γ 𝓡 χ C)) (λ u. refl) (λ u e. bra-tsr e y h) (kronecker-right 𝓡 _ (shape 𝓐 W F y)) x
+  tensor-first S f a (opt-tsr {P} x y h k) = sum-spreads tensor none f a arrays of-operators arrays of-operators (λ A. kronecker 𝓐 A (value Γ 𝓡 χ P)) (λ u. refl) (λ u e. opt-tsr e y h k) (kronecker-right 𝓡 _ (shape 𝓐 W F y)) x
 
   pub tensor-second : Second tensor add add
   unfolding value whole-of sum-chain _⧺_ dimension
-  tensor-second S t f a (ket-tsr x y h) = sum-spreads tensor (t ▹ none) f a arrays of-kets arrays of-kets (λ A. kronecker 𝓡 (value Γ 𝓡 χ t) A) (λ u. refl) (λ u e. ket-tsr x e h) (kronecker-left 𝓡 _ (shape 𝓡 W F x)) y
-  tensor-second S t f a (bra-tsr x y h) = sum-spreads tensor (t ▹ none) f a arrays of-bras arrays of-bras (λ A. kronecker 𝓡 (value Γ 𝓡 χ t) A) (λ u. refl) (λ u e. bra-tsr x e h) (kronecker-left 𝓡 _ (shape 𝓡 W F x)) y
-  tensor-second S t f a (opt-tsr x y h k) = sum-spreads tensor (t ▹ none) f a arrays of-operators arrays of-operators (λ A. kronecker 𝓡 (value Γ 𝓡 χ t) A) (λ u. refl) (λ u e. opt-tsr x e h k) (kronecker-left 𝓡 _ (shape 𝓡 W F x)) y
+  tensor-second S t f a (ket-tsr x y h) = sum-spreads tensor (t ▹ none) f a arrays of-kets arrays of-kets (λ A. kronecker 𝓐 (value Γ 𝓡 χ t) A) (λ u. refl) (λ u e. ket-tsr x e h) (kronecker-left 𝓡 _ (shape 𝓐 W F x)) y
+  tensor-second S t f a (bra-tsr x y h) = sum-spreads tensor (t ▹ none) f a arrays of-bras arrays of-bras (λ A. kronecker 𝓐 (value Γ 𝓡 χ t) A) (λ u. refl) (λ u e. bra-tsr x e h) (kronecker-left 𝓡 _ (shape 𝓐 W F x)) y
+  tensor-second S t f a (opt-tsr x y h k) = sum-spreads tensor (t ▹ none) f a arrays of-operators arrays of-operators (λ A. kronecker 𝓐 (value Γ 𝓡 χ t) A) (λ u. refl) (λ u e. opt-tsr x e h k) (kronecker-left 𝓡 _ (shape 𝓐 W F x)) y
 
   pub conjugate-sum : First conjugate scalar-sum scalar-sum
   unfolding value whole-of sum-chain _⧺_
   conjugate-sum S f a (sca-conj x) =
-      sum-spreads conjugate none f a scalars of-sum scalars of-sum (λ A. scalar-matrix 𝓡 (𝓡 .conj (number A))) (λ u. refl) (λ u e. sca-conj e) (numerical 𝓡 (𝓡 .conj) (𝓡 .conj-add)) x
+      sum-spreads conjugate none f a scalars of-sum scalars of-sum (λ A. scalar-matrix 𝓐 (𝓐 .conj (number A))) (λ u. refl) (λ u e. sca-conj e) (numerical 𝓡 (𝓐 .conj) (𝓡 .conj-add)) x
 
   -- 13 carries products to products
-  conj-carries : Carries (whole-of 𝓡 W F of-product) (whole-of 𝓡 W F of-product) (λ A. scalar-matrix 𝓡 (𝓡 .conj (number A)))
+  conj-carries : Carries (whole-of 𝓡 W F of-product) (whole-of 𝓡 W F of-product) (λ A. scalar-matrix 𝓐 (𝓐 .conj (number A)))
   unfolding whole-of products number scalar-matrix
   conj-carries =
       record {
-        shaped = λ A a. shape-scalar 𝓡 _;
+        shaped = λ A a. shape-scalar 𝓐 _;
         alike = λ A B a p. ≡→≈ (cc (number-≈ p (a .rows) (a .columns)));
-        carries = λ A B a b. ≡→≈ (ap (scalar-matrix 𝓡) (𝓡 .conj-mul (number A) (number B)));
+        carries = λ A B a b. ≡→≈ (ap (scalar-matrix 𝓐) (𝓡 .conj-mul (number A) (number B)));
       }
 
   pub conjugate-product : First conjugate scalar-product scalar-product
   unfolding value _⧺_
   conjugate-product S f a (sca-conj x) =
       let k = links scalar-products x in
-      carried conjugate none a (whole-of 𝓡 W F of-product) (whole-of 𝓡 W F of-product) (λ A. scalar-matrix 𝓡 (𝓡 .conj (number A))) (λ u. refl) conj-carries f (k .some) (k .every) (λ u e. sca-conj e)
+      carried conjugate none a (whole-of 𝓡 W F of-product) (whole-of 𝓡 W F of-product) (λ A. scalar-matrix 𝓐 (𝓐 .conj (number A))) (λ u. refl) conj-carries f (k .some) (k .every) (λ u e. sca-conj e)
 
   -- 7: the factors before and behind stay
   product-by : {T S : Sort} (b f a : Forest) → Of scalar-sum T → Of scalar-product S → Γ ⊢ node scalar-sum f ∶ T
@@ -170,11 +170,11 @@ module _ {R : Type 0} (𝓡 : StarSemiring R) {Γ : Context} {χ : Choice R} (W 
       → value Γ 𝓡 χ (node scalar-product (b ⧺ node scalar-sum f ▹ a)) ≈ value Γ 𝓡 χ (node scalar-sum (spread scalar-product b f a))
   unfolding value whole-of sum-chain
   product-by b f a of-sum of-product d again =
-      let p = times 𝓡 (stands* 𝓡 Γ χ b) in
-      let q = times 𝓡 (stands* 𝓡 Γ χ a) in
-      sum-spreads scalar-product b f a scalars of-sum scalars of-sum (λ A. scalar-matrix 𝓡 (𝓡 .mul p (𝓡 .mul (number A) q)))
-      (λ u. ap (scalar-matrix 𝓡) (times-around 𝓡 W F b u a)) again
-      (numerical 𝓡 (λ x. 𝓡 .mul p (𝓡 .mul x q)) (λ x y. cc (add-mul 𝓡 x y q, 𝓡 .mul-add p (𝓡 .mul x q) (𝓡 .mul y q)))) d
+      let p = times 𝓐 (stands* 𝓐 Γ χ b) in
+      let q = times 𝓐 (stands* 𝓐 Γ χ a) in
+      sum-spreads scalar-product b f a scalars of-sum scalars of-sum (λ A. scalar-matrix 𝓐 (𝓐 .mul p (𝓐 .mul (number A) q)))
+      (λ u. ap (scalar-matrix 𝓐) (times-around 𝓡 W F b u a)) again
+      (numerical 𝓡 (λ x. 𝓐 .mul p (𝓐 .mul x q)) (λ x y. cc (add-mul 𝓡 x y q, 𝓡 .mul-add p (𝓐 .mul x q) (𝓐 .mul y q)))) d
 
   pub product-any : (S : Sort) (b f a : Forest) → Γ ⊢ node scalar-product (b ⧺ node scalar-sum f ▹ a) ∶ S
       → value Γ 𝓡 χ (node scalar-product (b ⧺ node scalar-sum f ▹ a)) ≈ value Γ 𝓡 χ (node scalar-sum (spread scalar-product b f a))

@@ -3,8 +3,8 @@ use mathlib.Core.Bool.{Bool, true, false, cond}
 use mathlib.Core.List.{List, [], _∷_}
 use Prim.Native.Nat.{ℕ, _+_}
 use lib.Dec.{eqb}
-use Rattle.algebra.specs.Semirings.{StarSemiring}
-use Rattle.algebra.proofs.Gaussian.{gaussian}
+use Rattle.algebra.specs.Semirings.{Arithmetic, StarSemiring}
+use Rattle.algebra.proofs.Gaussian.{gaussian-laws}
 use Rattle.term.specs.declared.parts.Side.{Side}
 use Rattle.term.specs.declared.parts.Side.the-variants.{Left, Right}
 use Rattle.term.specs.Trees.{Tree}
@@ -41,17 +41,17 @@ outcome-type W d (no-place e h) = d
 outcome-type W d (no-instance e f h) = d
 outcome-type W d (too-big e f x h) = d
 
-module _ {R : Type 0} (𝓡 : StarSemiring R) {Γ : Context} {χ : Choice R} (W : WellFormed Γ) (F : Fits 𝓡 Γ χ) where
-  taken-means : {S : Sort} {t u : Tree} {s : Step} → Γ ⊢ t ∶ S → Taken Γ t s u → Same S (stands 𝓡 Γ χ t) (stands 𝓡 Γ χ u)
+module _ {R : Type 0} {𝓐 : Arithmetic R} (𝓡 : StarSemiring 𝓐) {Γ : Context} {χ : Choice R} (W : WellFormed Γ) (F : Fits 𝓐 Γ χ) where
+  taken-means : {S : Sort} {t u : Tree} {s : Step} → Γ ⊢ t ∶ S → Taken Γ t s u → Same S (stands 𝓐 Γ χ t) (stands 𝓐 Γ χ u)
   unfolding value
   taken-means {S} {t} {u} {s} d k =
       let p = part-typed W t (s .place) (k .part) S d (k .there) in
       let q = rule-keeps W (s .rule) (k .r) (k .rule) (s .i) (s .j) (k .part) (k .new) (p .0) (k .is) (p .1) in
       let m = rule-means 𝓡 W F (s .rule) (k .r) (k .rule) (s .i) (s .j) (k .part) (k .new) (p .0) (k .is) (p .1) in
       let same = same-alike (p .0) _ _ (rewritten-type W (s .rule) (k .rule) (k .is) (p .1)) .1 m in
-      rw (k .result) (congruent 𝓡 Γ χ W F t S (s .place) (k .part) (k .new) (p .0) d (k .there) (p .1) q same .1)
+      rw (k .result) (congruent 𝓐 Γ χ W F t S (s .place) (k .part) (k .new) (p .0) d (k .there) (p .1) q same .1)
 
-  outcome-means : {S : Sort} {t u : Tree} {s : Step} {c : ℕ} → Γ ⊢ t ∶ S → Outcome Γ t s c u → Same S (stands 𝓡 Γ χ t) (stands 𝓡 Γ χ u)
+  outcome-means : {S : Sort} {t u : Tree} {s : Step} {c : ℕ} → Γ ⊢ t ∶ S → Outcome Γ t s c u → Same S (stands 𝓐 Γ χ t) (stands 𝓐 Γ χ u)
   outcome-means d (good u k) = taken-means d k
   outcome-means {S} d (no-rule e) = same-refl S _
   outcome-means {S} d (no-place e h) = same-refl S _
@@ -70,9 +70,9 @@ unfolding stepsOf
 steps-keep-type Γ W S t d [] = d
 steps-keep-type Γ W S t d (s ∷ ss) = steps-keep-type Γ W S _ (step-keeps-type Γ W S t d s) ss
 
-module _ {R : Type 0} (𝓡 : StarSemiring R) where
-  step-keeps-meaning : {Γ : Context} {χ : Choice R} (W : WellFormed Γ) (F : Fits 𝓡 Γ χ) (S : Sort) (t : Tree) → Typed Γ S t → (s : Step)
-      → Same S (stands 𝓡 Γ χ t) (stands 𝓡 Γ χ (stepOf Γ t s .tree))
+module _ {R : Type 0} {𝓐 : Arithmetic R} (𝓡 : StarSemiring 𝓐) where
+  step-keeps-meaning : {Γ : Context} {χ : Choice R} (W : WellFormed Γ) (F : Fits 𝓐 Γ χ) (S : Sort) (t : Tree) → Typed Γ S t → (s : Step)
+      → Same S (stands 𝓐 Γ χ t) (stands 𝓐 Γ χ (stepOf Γ t s .tree))
   step-keeps-meaning {Γ} W F S t d s = outcome-means 𝓡 W F (d .rules) (step-decided Γ t s (d .form .formed))
 
   pub steps-keep-meaning : StepsKeepMeaning 𝓡
@@ -85,8 +85,8 @@ module _ {R : Type 0} (𝓡 : StarSemiring R) where
   record Kept (Γ : Context) (χ : Choice R) (S : Sort) (p q : Sides) : Type 0 where
     left-typed : Typed Γ S (q .left)
     right-typed : Typed Γ S (q .right)
-    left-same : Same S (stands 𝓡 Γ χ (p .left)) (stands 𝓡 Γ χ (q .left))
-    right-same : Same S (stands 𝓡 Γ χ (p .right)) (stands 𝓡 Γ χ (q .right))
+    left-same : Same S (stands 𝓐 Γ χ (p .left)) (stands 𝓐 Γ χ (q .left))
+    right-same : Same S (stands 𝓐 Γ χ (p .right)) (stands 𝓐 Γ χ (q .right))
 
   kept-refl : {Γ : Context} {χ : Choice R} {S : Sort} {p : Sides} → Typed Γ S (p .left) → Typed Γ S (p .right) → Kept Γ χ S p p
   kept-refl {S} l r = record { left-typed = l; right-typed = r; left-same = same-refl S _; right-same = same-refl S _ }
@@ -101,14 +101,14 @@ module _ {R : Type 0} (𝓡 : StarSemiring R) where
       }
 
   -- a step on a side
-  move-kept : {Γ : Context} {χ : Choice R} (W : WellFormed Γ) (F : Fits 𝓡 Γ χ) {S : Sort} (p : Sides) (side : Side) (s : Step)
+  move-kept : {Γ : Context} {χ : Choice R} (W : WellFormed Γ) (F : Fits 𝓐 Γ χ) {S : Sort} (p : Sides) (side : Side) (s : Step)
       → Typed Γ S (p .left) → Typed Γ S (p .right) → Kept Γ χ S p (put side (stepOf Γ (chosen side p) s .tree) p)
   move-kept {Γ} W F {S} p Left s l r =
       record { left-typed = step-keeps-type Γ W S _ l s; right-typed = r; left-same = step-keeps-meaning W F S _ l s; right-same = same-refl S _ }
   move-kept {Γ} W F {S} p Right s l r =
       record { left-typed = l; right-typed = step-keeps-type Γ W S _ r s; left-same = same-refl S _; right-same = step-keeps-meaning W F S _ r s }
 
-  run-kept : {Γ : Context} {χ : Choice R} (W : WellFormed Γ) (F : Fits 𝓡 Γ χ) {S : Sort} (p : Sides) → Typed Γ S (p .left) → Typed Γ S (p .right) → (n : ℕ) (ms : List Move)
+  run-kept : {Γ : Context} {χ : Choice R} (W : WellFormed Γ) (F : Fits 𝓐 Γ χ) {S : Sort} (p : Sides) → Typed Γ S (p .left) → Typed Γ S (p .right) → (n : ℕ) (ms : List Move)
       → Kept Γ χ S p (runOf Γ n p ms .sides)
   unfolding runOf
   run-kept W F p l r n [] = kept-refl l r
@@ -132,8 +132,8 @@ module _ {R : Type 0} (𝓡 : StarSemiring R) where
 
 pub gaussian-steps : GaussianSteps
 unfolding mean
-gaussian-steps Γ χ W F S h t d ss = alike-numbers _ _ .0 (same-alike S _ _ h .0 (steps-keep-meaning gaussian Γ χ W F S t d ss))
+gaussian-steps Γ χ W F S h t d ss = alike-numbers _ _ .0 (same-alike S _ _ h .0 (steps-keep-meaning gaussian-laws Γ χ W F S t d ss))
 
 pub gaussian-run : GaussianRun
 unfolding mean
-gaussian-run Γ χ W F S h p l r n ms e = alike-numbers _ _ .0 (same-alike S _ _ h .0 (run-proves gaussian Γ χ W F S p l r n ms e))
+gaussian-run Γ χ W F S h p l r n ms e = alike-numbers _ _ .0 (same-alike S _ _ h .0 (run-proves gaussian-laws Γ χ W F S p l r n ms e))

@@ -6,10 +6,9 @@ use mathlib.Core.List.{List}
 use mathlib.Core.Option.{some, none}
 use Prim.Native.Nat.{ℕ, _≤_}
 use lib.ListN.{length}
-use Rattle.algebra.specs.Semirings.{StarSemiring}
+use Rattle.algebra.specs.Semirings.{Arithmetic, StarSemiring}
 use Rattle.algebra.specs.Matrices.{_≈_}
-use Rattle.algebra.specs.Gaussian.{Gaussian}
-use Rattle.algebra.proofs.Gaussian.{gaussian}
+use Rattle.algebra.specs.Gaussian.{Gaussian, gaussian}
 use Rattle.term.specs.Trees.{Tree, words, Formed, found, subtree, replace}
 use Rattle.term.specs.Terms.{IsTerm}
 use Rattle.types.specs.Sorts.{Sort, Context, countsOf, _⊠_, Short}
@@ -39,11 +38,11 @@ KeepsType =
     (Γ : Context) → WellFormed Γ → (n : ℕ) (r : Rule) → ruleOf n ≡ some r → (i j : ℕ) (p q : Tree) → Instance Γ r i j p q
     → (S : Sort) → Γ ⊢ p ∶ S → (Γ ⊢ q ∶ S) × ((at : ℕ) (σ τ : Tree) → subtree q at ≡ found (σ ⊠ τ) → Short (σ ⊠ τ))
 
-module _ {R : Type 0} (𝓡 : StarSemiring R) where
+module _ {R : Type 0} {𝓐 : Arithmetic R} (𝓡 : StarSemiring 𝓐) where
   abbrev pub KeepsMeaning : Type 0
   KeepsMeaning =
-      (Γ : Context) (χ : Choice R) → WellFormed Γ → Fits 𝓡 Γ χ → (n : ℕ) (r : Rule) → ruleOf n ≡ some r → (i j : ℕ) (p q : Tree) → Instance Γ r i j p q
-      → (S : Sort) → Γ ⊢ p ∶ S → mean 𝓡 Γ χ p ≈ mean 𝓡 Γ χ q
+      (Γ : Context) (χ : Choice R) → WellFormed Γ → Fits 𝓐 Γ χ → (n : ℕ) (r : Rule) → ruleOf n ≡ some r → (i j : ℕ) (p q : Tree) → Instance Γ r i j p q
+      → (S : Sort) → Γ ⊢ p ∶ S → mean 𝓐 Γ χ p ≈ mean 𝓐 Γ χ q
 
 -- ---- a step: an instance of its rule at its place within the limits
 pub record Taken (Γ : Context) (t : Tree) (s : Step) (u : Tree) : Type 0 where
@@ -85,25 +84,25 @@ StepKeepsType = (Γ : Context) → WellFormed Γ → (S : Sort) (t : Tree) → T
 abbrev pub StepsKeepType : Type 0
 StepsKeepType = (Γ : Context) → WellFormed Γ → (S : Sort) (t : Tree) → Typed Γ S t → (ss : List Step) → Typed Γ S (stepsOf Γ t ss)
 
-module _ {R : Type 0} (𝓡 : StarSemiring R) where
+module _ {R : Type 0} {𝓐 : Arithmetic R} (𝓡 : StarSemiring 𝓐) where
   abbrev pub StepsKeepMeaning : Type 0
   StepsKeepMeaning =
-      (Γ : Context) (χ : Choice R) → WellFormed Γ → Fits 𝓡 Γ χ → (S : Sort) (t : Tree) → Typed Γ S t → (ss : List Step)
-      → Same S (stands 𝓡 Γ χ t) (stands 𝓡 Γ χ (stepsOf Γ t ss))
+      (Γ : Context) (χ : Choice R) → WellFormed Γ → Fits 𝓐 Γ χ → (S : Sort) (t : Tree) → Typed Γ S t → (ss : List Step)
+      → Same S (stands 𝓐 Γ χ t) (stands 𝓐 Γ χ (stepsOf Γ t ss))
 
   -- each side through every run
   abbrev pub RunKeepsMeaning : Type 0
   RunKeepsMeaning =
-      (Γ : Context) (χ : Choice R) → WellFormed Γ → Fits 𝓡 Γ χ → (S : Sort) (p : Sides) → Typed Γ S (p .left) → Typed Γ S (p .right) → (n : ℕ) (ms : List Move)
+      (Γ : Context) (χ : Choice R) → WellFormed Γ → Fits 𝓐 Γ χ → (S : Sort) (p : Sides) → Typed Γ S (p .left) → Typed Γ S (p .right) → (n : ℕ) (ms : List Move)
       → let q = runOf Γ n p ms .sides in
       Typed Γ S (q .left) × Typed Γ S (q .right)
-      × Same S (stands 𝓡 Γ χ (p .left)) (stands 𝓡 Γ χ (q .left)) × Same S (stands 𝓡 Γ χ (p .right)) (stands 𝓡 Γ χ (q .right))
+      × Same S (stands 𝓐 Γ χ (p .left)) (stands 𝓐 Γ χ (q .left)) × Same S (stands 𝓐 Γ χ (p .right)) (stands 𝓐 Γ χ (q .right))
 
   -- where a run brings both sides to the same end, they stood for the same from the start
   abbrev pub RunProves : Type 0
   RunProves =
-      (Γ : Context) (χ : Choice R) → WellFormed Γ → Fits 𝓡 Γ χ → (S : Sort) (p : Sides) → Typed Γ S (p .left) → Typed Γ S (p .right) → (n : ℕ) (ms : List Move)
-      → (let q = runOf Γ n p ms .sides in q .left ≡ q .right) → Same S (stands 𝓡 Γ χ (p .left)) (stands 𝓡 Γ χ (p .right))
+      (Γ : Context) (χ : Choice R) → WellFormed Γ → Fits 𝓐 Γ χ → (S : Sort) (p : Sides) → Typed Γ S (p .left) → Typed Γ S (p .right) → (n : ℕ) (ms : List Move)
+      → (let q = runOf Γ n p ms .sides in q .left ≡ q .right) → Same S (stands 𝓐 Γ χ (p .left)) (stands 𝓐 Γ χ (p .right))
 
 -- the same in the words of demand 3, over the Gaussian integers: equal in shape and in the number at each row and column
 abbrev pub GaussianSteps : Type 0

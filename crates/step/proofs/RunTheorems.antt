@@ -10,9 +10,9 @@ use borrow.Author.Tests.{ne-eqb, eqb-true, eqb-false}
 use lib.Dec.{eqb}
 use lib.ListN.{length, take, drop, replicate, length-drop}
 use lib.Seq.{drop-append-le}
-use Rattle.algebra.specs.Semirings.{StarSemiring}
-use Rattle.algebra.specs.Gaussian.{Gaussian}
-use Rattle.algebra.proofs.Gaussian.{gaussian}
+use Rattle.algebra.specs.Semirings.{Arithmetic, StarSemiring}
+use Rattle.algebra.specs.Gaussian.{Gaussian, gaussian}
+use Rattle.algebra.proofs.Gaussian.{gaussian-laws}
 use Rattle.words.specs.Words.{cleared, sameWords, agreeing}
 use Rattle.words.proofs.Runs.{same-words, same-words-eq, agreeing-take, agreeing-differ}
 use Rattle.words.specs.Listed.{upTo}
@@ -199,12 +199,12 @@ module _ (ds left : List ℕ) (n : ℕ) (right : List ℕ) (m : ℕ) (steps : Li
     typed-end : Both Γ S end
     typed-end = went-typed (went W 0 p (both b) moves)
 
-    numbers-of : (t u : Tree) → ((R : Type 0) (𝓡 : StarSemiring R) (χ : Choice R) → Fits 𝓡 Γ χ → Same S (stands 𝓡 Γ χ t) (stands 𝓡 Γ χ u))
+    numbers-of : (t u : Tree) → ((R : Type 0) (𝓐 : Arithmetic R) → StarSemiring 𝓐 → (χ : Choice R) → Fits 𝓐 Γ χ → Same S (stands 𝓐 Γ χ t) (stands 𝓐 Γ χ u))
         → (χ : Choice Gaussian) → Fits gaussian Γ χ → EqualNumbers (mean gaussian Γ χ t) (mean gaussian Γ χ u)
     unfolding mean
-    numbers-of t u same χ F = alike-numbers _ _ .0 (same-alike S _ _ (b .left-term .isType) .0 (same _ gaussian χ F))
+    numbers-of t u same χ F = alike-numbers _ _ .0 (same-alike S _ _ (b .left-term .isType) .0 (same _ gaussian gaussian-laws χ F))
 
-    alike : {t u : Tree} → Typed Γ S u → ((R : Type 0) (𝓡 : StarSemiring R) (χ : Choice R) → Fits 𝓡 Γ χ → Same S (stands 𝓡 Γ χ t) (stands 𝓡 Γ χ u)) → Alike Γ S t u
+    alike : {t u : Tree} → Typed Γ S u → ((R : Type 0) (𝓐 : Arithmetic R) → StarSemiring 𝓐 → (χ : Choice R) → Fits 𝓐 Γ χ → Same S (stands 𝓐 Γ χ t) (stands 𝓐 Γ χ u)) → Alike Γ S t u
     alike {t} {u} d same = record { typed = d; same = same; numbers = numbers-of t u same }
 
     lengths-by : (c : Bool) (r : Run) → eqb (r .code) 0 ≡ c → (answered r .left ≡ length (words (r .sides .left))) × (answered r .right ≡ length (words (r .sides .right)))
@@ -216,13 +216,13 @@ module _ (ds left : List ℕ) (n : ℕ) (right : List ℕ) (m : ℕ) (steps : Li
     kept =
         let s = slices b in
         let l = lengths-by _ (runOf Γ 0 p moves) refl in
-        let keeps : (R : Type 0) (𝓡 : StarSemiring R) (χ : Choice R) → Fits 𝓡 Γ χ → _ = λ R 𝓡 χ F. run-keeps-meaning 𝓡 Γ χ W F S p (both b .left) (both b .right) 0 moves in
+        let keeps : (R : Type 0) (𝓐 : Arithmetic R) → StarSemiring 𝓐 → (χ : Choice R) → Fits 𝓐 Γ χ → _ = λ R 𝓐 𝓡 χ F. run-keeps-meaning 𝓡 Γ χ W F S p (both b .left) (both b .right) 0 moves in
         record {
           left-slice = rw (run-at b) at (s .0);
           right-slice = rw (run-at b) at (s .1);
           lengths = rw (s .2, run-at b) l;
-          left-alike = alike (typed-end .left) (λ R 𝓡 χ F. keeps R 𝓡 χ F .2);
-          right-alike = alike (typed-end .right) (λ R 𝓡 χ F. keeps R 𝓡 χ F .3);
+          left-alike = alike (typed-end .left) (λ R 𝓐 𝓡 χ F. keeps R 𝓐 𝓡 χ F .2);
+          right-alike = alike (typed-end .right) (λ R 𝓐 𝓡 χ F. keeps R 𝓐 𝓡 χ F .3);
         }
 
 pub accepts : Accepts
@@ -237,7 +237,7 @@ proves ds left n right m steps count a =
     let W = well-formed ds (a .left-term .good) in
     let e : let q = runOf (contextIn ds) 0 (a .start) (movesIn steps count) .sides in q .left ≡ q .right = rw (run-all ds left n right m steps count a) (a .same) in
     alike ds left n right m steps count b (its-type (a .right-term))
-    (λ R 𝓡 χ F. run-proves 𝓡 (contextIn ds) χ W F (a .sort) (a .start) (its-type (a .left-term)) (its-type (a .right-term)) 0 (movesIn steps count) e)
+    (λ R 𝓐 𝓡 χ F. run-proves 𝓡 (contextIn ds) χ W F (a .sort) (a .start) (its-type (a .left-term)) (its-type (a .right-term)) 0 (movesIn steps count) e)
 
 pub decides : Decides
 decides ds left n right m steps count = view-by ds left n right m steps count (judges ds left n right m steps count) refl

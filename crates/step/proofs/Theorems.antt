@@ -68,7 +68,7 @@ lists ds w t S h ss =
         course = course h ss;
         left = left-after h ss;
         typed = steps-keep-type _ W S t d (map asked ss);
-        same = λ R 𝓡 χ F. steps-keep-meaning 𝓡 _ χ W F S t d (map asked ss);
+        same = λ R 𝓐 𝓡 χ F. steps-keep-meaning 𝓡 _ χ W F S t d (map asked ss);
         numbers = λ χ F. gaussian-steps _ χ W F S (h .isType) t d (map asked ss);
       },
     )

@@ -6,9 +6,8 @@ use mathlib.Core.List.{List}
 use Prim.Native.Nat.{ℕ, _+_}
 use lib.Dec.{eqb}
 use lib.ListN.{length}
-use Rattle.algebra.specs.Semirings.{StarSemiring}
-use Rattle.algebra.specs.Gaussian.{Gaussian}
-use Rattle.algebra.proofs.Gaussian.{gaussian}
+use Rattle.algebra.specs.Semirings.{Arithmetic, StarSemiring}
+use Rattle.algebra.specs.Gaussian.{Gaussian, gaussian}
 use Rattle.term.specs.Trees.{Tree, words}
 use Rattle.types.specs.Sorts.{Sort, Context}
 use Rattle.meaning.specs.Choices.{Choice}
@@ -41,7 +40,7 @@ Decides =
 -- semiring; `numbers` says it once more of the Gaussian integers
 pub record Alike (Γ : Context) (S : Sort) (t u : Tree) : Type 1 where
   pub typed : Typed Γ S u
-  pub same : (R : Type 0) (𝓡 : StarSemiring R) (χ : Choice R) → Fits 𝓡 Γ χ → Same S (stands 𝓡 Γ χ t) (stands 𝓡 Γ χ u)
+  pub same : (R : Type 0) (𝓐 : Arithmetic R) → StarSemiring 𝓐 → (χ : Choice R) → Fits 𝓐 Γ χ → Same S (stands 𝓐 Γ χ t) (stands 𝓐 Γ χ u)
   pub numbers : (χ : Choice Gaussian) → Fits gaussian Γ χ → EqualNumbers (mean gaussian Γ χ t) (mean gaussian Γ χ u)
 
 -- Demand 3: "Each side keeps its meaning through every replay", refused ones included: codes 0, 20 to 23 and 30

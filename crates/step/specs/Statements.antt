@@ -4,9 +4,8 @@ use mathlib.Core.Logic.{_≢_}
 use mathlib.Core.List.{List, [], _∷_}
 use Prim.Native.Nat.{ℕ}
 use lib.ListN.{length, replicate}
-use Rattle.algebra.specs.Semirings.{StarSemiring}
-use Rattle.algebra.specs.Gaussian.{Gaussian}
-use Rattle.algebra.proofs.Gaussian.{gaussian}
+use Rattle.algebra.specs.Semirings.{Arithmetic, StarSemiring}
+use Rattle.algebra.specs.Gaussian.{Gaussian, gaussian}
 use Rattle.term.specs.Trees.{Tree, words}
 use Rattle.types.specs.Sorts.{Sort}
 use Rattle.meaning.specs.Choices.{Choice}
@@ -79,7 +78,7 @@ pub record Kept (ds : List ℕ) (w : Work) (t : Tree) (S : Sort) (ss : List Step
   pub course : Course ds w t ss u
   pub left : afterAll ds w ss ≡ leaving w ss u
   pub typed : Typed (contextIn ds) S u
-  pub same : (R : Type 0) (𝓡 : StarSemiring R) (χ : Choice R) → Fits 𝓡 (contextIn ds) χ → Same S (stands 𝓡 (contextIn ds) χ t) (stands 𝓡 (contextIn ds) χ u)
+  pub same : (R : Type 0) (𝓐 : Arithmetic R) → StarSemiring 𝓐 → (χ : Choice R) → Fits 𝓐 (contextIn ds) χ → Same S (stands 𝓐 (contextIn ds) χ t) (stands 𝓐 (contextIn ds) χ u)
   pub numbers : (χ : Choice Gaussian) → Fits gaussian (contextIn ds) χ → EqualNumbers (mean gaussian (contextIn ds) χ t) (mean gaussian (contextIn ds) χ u)
 
 -- 01: "one claim about the whole list, not one for each step. A list begins with a typed term, one that none of 7, 8, 10 and 11 refuses, in a slice of 4,096
