@@ -1,15 +1,22 @@
 -- Demand 3: what the terms of a file stand for, and what the replay leaves of them.
-use mathlib.Core.Path.{_∙_, ap}
+use mathlib.Core.Path.{_≡_, _∙_, ap}
+use mathlib.Core.Bool.{true}
 use mathlib.Core.List.{List}
 use Prim.Native.Nat.{ℕ}
 use native.Mathlib.Omega.{arith}
 use lib.ListN.{length}
+use Rattle.algebra.specs.Gaussian.{gaussian}
 use Rattle.types.specs.Sorts.{Sort}
+use Rattle.meaning.specs.Sorted.{EveryChoice}
+use Rattle.meaning.proofs.Fitting as M
+use Rattle.declarations.specs.Declarations.{contextIn, goodDeclarations}
+use Rattle.declarations.proofs.Entries.{well-formed}
 use Rattle.rules.specs.Steps.{Sides}
 use Rattle.lent.specs.Refusals.{Begun}
 use Rattle.format.specs.Files.{File, contextOf}
 use Rattle.format.specs.Statements.{Written}
 use Rattle.format.specs.Kept.{declarationsOf, padded, stepsOf}
+use Rattle.format.proofs.Declared.{declared}
 use Rattle.step.specs.declared.run.Answer as A
 use Rattle.step.specs.RunStatements.{Alike}
 use Rattle.step.proofs.RunTheorems as T
@@ -17,10 +24,16 @@ use Rattle.file.specs.Replays.{replayAnswer}
 use Rattle.file.specs.Files.{Accepted, Sized, Decision, wrong-size, unread, replayed}
 use Rattle.file.specs.Demands.{Kept}
 use Rattle.file.proofs.Late.{Late, not-between}
-use Rattle.file.proofs.Sides.{typed-side, alike-of}
+use Rattle.file.proofs.Sides.{context, typed-side, alike-of}
 use Rattle.file.proofs.Decided.{run-begun}
 use Rattle.file.proofs.Replayed.{decided, answer-of, left-of, right-of}
 use Rattle.file.proofs.Accepting.{to-run}
+
+pub chooses-lent : (ds : List ℕ) → goodDeclarations ds ≡ true → EveryChoice gaussian (contextIn ds)
+chooses-lent ds e = M.chooses gaussian (contextIn ds) (well-formed ds e)
+
+pub chooses : (bytes : List ℕ) (f : File) → Written bytes f → EveryChoice gaussian (contextOf f)
+chooses bytes f w = rw (context f (w .order)) at (chooses-lent (declarationsOf f) (declared f (w .order .declared) .good))
 
 pub proves : (bytes : List ℕ) (a : Accepted bytes) → Alike (contextOf (a .file)) (a .sort) (a .start .left) (a .start .right)
 proves bytes a = alike-of (a .file) (a .written .order) (T.proves _ _ _ _ _ _ _ (to-run a))

@@ -1,6 +1,7 @@
 -- The three demands, as the customer wrote them, each sentence beside what it says of the replay and of the single step. `proofs/Demands` holds a value of each.
 use mathlib.Core.Path.{_≡_}
 use mathlib.Core.Logic.{_↔_, _≢_, _⊎_}
+use mathlib.Core.Bool.{true}
 use mathlib.Core.List.{List}
 use Prim.Native.Nat.{ℕ, _-_, _≤_}
 use lib.ListN.{length, drop, replicate}
@@ -9,9 +10,8 @@ use Rattle.term.specs.Trees.{words}
 use Rattle.types.specs.Sorts.{Sort}
 use Rattle.meaning.specs.Choices.{Choice}
 use Rattle.meaning.specs.Meaning.{mean}
-use Rattle.meaning.specs.Sorted.{Fits}
-use Rattle.meaning.specs.Statements.{EqualNumbers}
-use Rattle.declarations.specs.Declarations.{contextIn}
+use Rattle.meaning.specs.Sorted.{Fits, EveryChoice, EqualNumbers}
+use Rattle.declarations.specs.Declarations.{contextIn, goodDeclarations}
 use Rattle.rules.specs.Steps.{Sides}
 use Rattle.lent.specs.declared.steps.Step.{Step}
 use Rattle.lent.specs.Lent.{movesIn}
@@ -76,8 +76,11 @@ pub record Kept (bytes left right : List ℕ) : Type 1 where
 -- "For every accepted file, .. the number at each row and column of the matrix that the left term in it stands for equals the number there for the right term in it: for every dimension from 1 up ..,
 -- every index inside its range .., and every Gaussian integer put into the entries of the variables, with the shapes as declared. Where a file is accepted, or refused only at a step or because its
 -- ends differ, the term that the file gives for each side and what the replay leaves of it are alike in shape and in every such number. For every list of single steps from a typed term .., each
--- step is answered and done as document 01 fixes, and that term and the one left after the list are alike in the same way." `Alike` says shape and numbers, for every choice that fits
+-- step is answered and done as document 01 fixes, and that term and the one left after the list are alike in the same way." `Alike` says shape and numbers, for every choice that fits;
+-- `chooses` says which do, all dimensions, indices and entries that are asked for: of every file of the form, so of every accepted one, and of lent declarations
 pub record Demand3 : Type 1 where
+  pub chooses : (bytes : List ℕ) (f : File) → Written bytes f → EveryChoice gaussian (contextOf f)
+  pub chooses-lent : (ds : List ℕ) → goodDeclarations ds ≡ true → EveryChoice gaussian (contextIn ds)
   pub proves : (bytes : List ℕ) (a : Accepted bytes) → Alike (contextOf (a .file)) (a .sort) (a .start .left) (a .start .right)
   pub keeps : (bytes left right : List ℕ) → (replayAnswer bytes left right .code ≡ 0) ⊎ (20 ≤ replayAnswer bytes left right .code) → Kept bytes left right
   pub lists : Lists

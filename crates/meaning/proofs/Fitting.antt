@@ -1,18 +1,18 @@
--- Nothing is excluded: whatever dimensions from 1 up are given to the type names, some choice with these dimensions fits.
+-- No choice is left out: all dimensions from 1 up, all positions inside their ranges and all entries are those of one that fits.
 use mathlib.Core.Path.{_≡_, refl}
 use mathlib.Core.Option.{Option, some, none}
 use Prim.Native.Nat.{ℕ, _≤_, _<_}
 use native.Mathlib.Nat.{one-le-mul}
 use lib.ListN.{getElem?}
 use Rattle.algebra.specs.Semirings.{Arithmetic}
-use Rattle.algebra.specs.Matrices.{Matrix, zeros}
-use Rattle.algebra.proofs.Shapes.{shape-zeros}
+use Rattle.algebra.specs.Matrices.{zeros}
 use Rattle.term.specs.Trees.{Tree}
 use Rattle.types.specs.Sorts.{Sort, index, basis, scalar, ket, bra, operator, Context}
 use Rattle.types.specs.Rules.{_⊢_∶_, type-var, term-var, base-prod, WellFormed}
 use Rattle.meaning.specs.Choices.{Choice, an-index, a-basis}
 use Rattle.meaning.specs.Meaning.{first, second, meaningOf, meaning, dimension}
-use Rattle.meaning.specs.Sorted.{Shaped, Fits}
+use Rattle.meaning.specs.Sorted.{Shaped}
+use Rattle.meaning.specs.Statements.{Chooses}
 
 module _ {R : Type 0} (𝓐 : Arithmetic R) {Γ : Context} (W : WellFormed Γ) where
   -- an index has a dimension from 1 up
@@ -22,40 +22,38 @@ module _ {R : Type 0} (𝓐 : Arithmetic R) {Γ : Context} (W : WellFormed Γ) w
   positive χ d (term-var e) = absurd (W .variable-type _ _ e .0)
   positive χ d (base-prod a b h) = one-le-mul (positive χ d a) (positive χ d b)
 
-  module _ (δ : ℕ → ℕ) (from-one : (a : ℕ) → a < Γ .types → 1 ≤ δ a) where
-    dims : Choice R
-    dims = record { dimension = δ; position = λ a. 0; matrix = λ a. zeros 𝓐 0 0 }
+module _ {R : Type 0} (𝓐 : Arithmetic R) (Γ : Context) (δ π : ℕ → ℕ) (e : ℕ → ℕ → ℕ → R) where
+  -- how many rows and columns what is declared has. A dimension looks at the dimensions of a choice alone
+  size : Option Sort → ℕ × ℕ
+  size S =
+      let d : Tree → ℕ = dimension 𝓐 (record { dimension = δ; position = π; matrix = λ a. zeros 𝓐 0 0 }) in
+      elim S [
+        | none ↦ (0, 0)
+        | some (index σ) ↦ (0, 0)
+        | some (basis σ) ↦ (0, 0)
+        | some scalar ↦ (1, 1)
+        | some (ket σ) ↦ (d σ, 1)
+        | some (bra σ) ↦ (1, d σ)
+        | some (operator σ τ) ↦ (d σ, d τ)
+      ]
 
-    -- a zero matrix of a sort
-    blank : Option Sort → Matrix R
-    blank none = zeros 𝓐 0 0
-    blank (some (index σ)) = zeros 𝓐 0 0
-    blank (some (basis σ)) = zeros 𝓐 0 0
-    blank (some scalar) = zeros 𝓐 1 1
-    blank (some (ket σ)) = zeros 𝓐 (dimension 𝓐 dims σ) 1
-    blank (some (bra σ)) = zeros 𝓐 1 (dimension 𝓐 dims σ)
-    blank (some (operator σ τ)) = zeros 𝓐 (dimension 𝓐 dims σ) (dimension 𝓐 dims τ)
+  choice : Choice R
+  choice = record { dimension = δ; position = π; matrix = λ a. let s = size (getElem? (Γ .variables) a) in record { rows = s .0; columns = s .1; entry = e a } }
 
-    zero-choice : Choice R
-    zero-choice = record { dimension = δ; position = λ a. 0; matrix = λ a. blank (getElem? (Γ .variables) a) }
+  as-declared : (a : ℕ) (S : Sort) → getElem? (Γ .variables) a ≡ some S → Shaped 𝓐 choice S (choice .matrix a)
+  unfolding choice size dimension
+  as-declared a (index σ) h = tt
+  as-declared a (basis σ) h = tt
+  as-declared a scalar h = record { rows = rw h; columns = rw h }
+  as-declared a (ket σ) h = record { rows = rw h; columns = rw h }
+  as-declared a (bra σ) h = record { rows = rw h; columns = rw h }
+  as-declared a (operator σ τ) h = record { rows = rw h; columns = rw h }
 
-    blank-shaped : (S : Sort) → Shaped 𝓐 zero-choice S (blank (some S))
-    unfolding blank dimension zero-choice dims
-    blank-shaped (index σ) = tt
-    blank-shaped (basis σ) = tt
-    blank-shaped scalar = shape-zeros 𝓐 refl refl
-    blank-shaped (ket σ) = shape-zeros 𝓐 refl refl
-    blank-shaped (bra σ) = shape-zeros 𝓐 refl refl
-    blank-shaped (operator σ τ) = shape-zeros 𝓐 refl refl
-
-    pub some-choice-fits : (χ : Choice R) × Fits 𝓐 Γ χ × ((a : ℕ) → χ .dimension a ≡ δ a)
-    unfolding zero-choice
-    some-choice-fits = (
-      zero-choice,
-      record {
-        dimensions = from-one;
-        positions = λ a σ e. positive zero-choice from-one (W .basis-index a σ e);
-        matrices = λ a S e. rw e (blank-shaped S);
-      },
-      λ a. refl,
-    )
+pub chooses : {R : Type 0} (𝓐 : Arithmetic R) → Chooses 𝓐
+unfolding choice
+chooses 𝓐 Γ W δ π e from-one = (
+  choice 𝓐 Γ δ π e,
+  record { dimensions = λ a. refl; positions = λ a. refl; entries = λ a i j. refl },
+  λ σ h. positive 𝓐 W (choice 𝓐 Γ δ π e) from-one h,
+  λ inside. record { dimensions = from-one; positions = inside; matrices = as-declared 𝓐 Γ δ π e },
+)

@@ -9,8 +9,8 @@ use Rattle.types.specs.Rules.{IsType}
 use Rattle.types.proofs.Complete.{unique}
 use Rattle.meaning.specs.Choices.{Choice, Meaning}
 use Rattle.meaning.specs.Meaning.{mean}
-use Rattle.meaning.specs.Sorted.{Shaped, Proper, Same}
-use Rattle.meaning.specs.Statements.{KeepsShape, Congruent, EqualNumbers, GaussianShape, GaussianCongruent}
+use Rattle.meaning.specs.Sorted.{Shaped, Proper, Same, EqualNumbers}
+use Rattle.meaning.specs.Statements.{KeepsShape, Congruent, GaussianShape}
 use Rattle.meaning.proofs.Shapes.{shape}
 use Rattle.meaning.proofs.Congruence.{replace-serves}
 
@@ -53,9 +53,3 @@ alike-numbers A B = (
 pub gaussian-shape : GaussianShape
 unfolding mean
 gaussian-shape Γ χ W F t S h d = proper-shaped gaussian χ S _ h (keeps-shape gaussian Γ χ W F t S d)
-
-pub gaussian-congruent : GaussianCongruent
-unfolding mean
-gaussian-congruent Γ χ W F t S at s u Q h k d e old new same =
-    let r = congruent gaussian Γ χ W F t S at s u Q d e old new (same-alike Q _ _ k .1 (alike-numbers _ _ .1 same)) in
-    (r .0, alike-numbers _ _ .0 (same-alike S _ _ h .0 (r .1)))

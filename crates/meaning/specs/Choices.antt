@@ -1,4 +1,5 @@
 -- Choices, and what a part of a term stands for.
+use mathlib.Core.Path.{_≡_}
 use Prim.Native.Nat.{ℕ}
 use Rattle.algebra.specs.Semirings.{Arithmetic}
 use Rattle.algebra.specs.Matrices.{Matrix, zeros}
@@ -8,6 +9,12 @@ pub record Choice (R : Type 0) : Type 0 where
   pub dimension : ℕ → ℕ
   pub position : ℕ → ℕ
   pub matrix : ℕ → Matrix R
+
+-- A choice of exactly these: a dimension for each type name, a position for each basis name, and for each variable the entries, by row and column
+pub record Given {R : Type 0} (dimension position : ℕ → ℕ) (entry : ℕ → ℕ → ℕ → R) (χ : Choice R) : Type 0 where
+  pub dimensions : (a : ℕ) → χ .dimension a ≡ dimension a
+  pub positions : (a : ℕ) → χ .position a ≡ position a
+  pub entries : (a i j : ℕ) → χ .matrix a .entry i j ≡ entry a i j
 
 -- What a part stands for: an index for its dimension, a basis for a position below the dimension of its index, a term for a matrix
 pub record Meaning (R : Type 0) : Type 0 where

@@ -1,13 +1,15 @@
--- What a part of a sort stands for: the shape of a type, when a choice fits a context, and when two parts of one sort stand for the same.
+-- What a part of a sort stands for: the shape of a type, when a choice fits a context, which choices there are, and when two parts of one sort stand for the same.
 use mathlib.Core.Path.{_≡_}
 use mathlib.Core.Option.{some}
 use Prim.Native.Nat.{ℕ, _≤_, _<_}
 use lib.ListN.{getElem?}
 use Rattle.algebra.specs.Semirings.{Arithmetic}
 use Rattle.algebra.specs.Matrices.{Matrix, _≈_, Shape}
+use Rattle.algebra.specs.Gaussian.{Gaussian}
 use Rattle.term.specs.Trees.{Tree}
 use Rattle.types.specs.Sorts.{Sort, index, basis, scalar, ket, bra, operator, Context}
-use Rattle.meaning.specs.Choices.{Choice, Meaning}
+use Rattle.types.specs.Rules.{Index}
+use Rattle.meaning.specs.Choices.{Choice, Given, Meaning}
 use Rattle.meaning.specs.Meaning.{dimension}
 
 module _ {R : Type 0} (𝓐 : Arithmetic R) where
@@ -26,6 +28,15 @@ module _ {R : Type 0} (𝓐 : Arithmetic R) where
     pub positions : (a : ℕ) (σ : Tree) → getElem? (Γ .bases) a ≡ some σ → χ .position a < dimension 𝓐 χ σ
     pub matrices : (a : ℕ) (S : Sort) → getElem? (Γ .variables) a ≡ some S → Shaped χ S (χ .matrix a)
 
+  -- Demand 3: "for every dimension from 1 up given to each type name, every index inside its range given to each basis name, and every Gaussian integer put into
+  -- the entries of the variables, with the shapes as declared". None is left out: a choice of exactly these fits, and every range has an index inside
+  abbrev pub EveryChoice : Context → Type 0
+  EveryChoice Γ =
+      (δ π : ℕ → ℕ) (e : ℕ → ℕ → ℕ → R) → ((a : ℕ) → a < Γ .types → 1 ≤ δ a)
+      → (χ : Choice R) × Given δ π e χ
+      × ((σ : Tree) → Index Γ σ → 1 ≤ dimension 𝓐 χ σ)
+      × (((a : ℕ) (σ : Tree) → getElem? (Γ .bases) a ≡ some σ → π a < dimension 𝓐 χ σ) → Fits Γ χ)
+
   -- what a part of a sort must stand for
   abbrev pub Proper : Choice R → Sort → Meaning R → Type 0
   Proper χ (index σ) x = x .dimension ≡ dimension 𝓐 χ σ
@@ -43,3 +54,10 @@ Same scalar x y = x .matrix ≈ y .matrix
 Same (ket σ) x y = x .matrix ≈ y .matrix
 Same (bra σ) x y = x .matrix ≈ y .matrix
 Same (operator σ τ) x y = x .matrix ≈ y .matrix
+
+-- equal in shape, and in the number at each row and column: both its whole numbers
+pub record EqualNumbers (A B : Matrix Gaussian) : Type 0 where
+  pub rows : A .rows ≡ B .rows
+  pub columns : A .columns ≡ B .columns
+  pub re : (i j : ℕ) → i < A .rows → j < A .columns → A .entry i j .re ≡ B .entry i j .re
+  pub im : (i j : ℕ) → i < A .rows → j < A .columns → A .entry i j .im ≡ B .entry i j .im

@@ -1,17 +1,20 @@
 -- What is proved of meanings, whatever the entries are reckoned with, and once more for the Gaussian integers.
 use mathlib.Core.Path.{_≡_}
-use Prim.Native.Nat.{ℕ, _<_}
+use Prim.Native.Nat.{ℕ}
 use Rattle.algebra.specs.Semirings.{Arithmetic}
-use Rattle.algebra.specs.Matrices.{Matrix}
 use Rattle.algebra.specs.Gaussian.{Gaussian, gaussian}
 use Rattle.term.specs.Trees.{Tree, found, subtree, replace}
 use Rattle.types.specs.Sorts.{Sort, Context}
 use Rattle.types.specs.Rules.{_⊢_∶_, IsType, WellFormed}
 use Rattle.meaning.specs.Choices.{Choice}
 use Rattle.meaning.specs.Meaning.{stands, mean}
-use Rattle.meaning.specs.Sorted.{Shaped, Proper, Fits, Same}
+use Rattle.meaning.specs.Sorted.{Shaped, Fits, EveryChoice, Proper, Same}
 
 module _ {R : Type 0} (𝓐 : Arithmetic R) where
+  -- no dimension from 1 up, no position inside its range and no entry is left out
+  abbrev pub Chooses : Type 0
+  Chooses = (Γ : Context) → WellFormed Γ → EveryChoice 𝓐 Γ
+
   -- a part of a sort stands for what its sort says: a term has the shape of its type, a basis lies below its dimension
   abbrev pub KeepsShape : Type 0
   KeepsShape = (Γ : Context) (χ : Choice R) → WellFormed Γ → Fits 𝓐 Γ χ → (t : Tree) (S : Sort) → Γ ⊢ t ∶ S → Proper 𝓐 χ S (stands 𝓐 Γ χ t)
@@ -25,21 +28,7 @@ module _ {R : Type 0} (𝓐 : Arithmetic R) where
       → (Γ ⊢ replace t at u ∶ S) × Same S (stands 𝓐 Γ χ t) (stands 𝓐 Γ χ (replace t at u))
 
 -- ---- over the Gaussian integers
--- equal in shape, and in the number at each row and column: both its whole numbers
-pub record EqualNumbers (A B : Matrix Gaussian) : Type 0 where
-  pub rows : A .rows ≡ B .rows
-  pub columns : A .columns ≡ B .columns
-  pub re : (i j : ℕ) → i < A .rows → j < A .columns → A .entry i j .re ≡ B .entry i j .re
-  pub im : (i j : ℕ) → i < A .rows → j < A .columns → A .entry i j .im ≡ B .entry i j .im
-
 abbrev pub GaussianShape : Type 0
 GaussianShape =
     (Γ : Context) (χ : Choice Gaussian) → WellFormed Γ → Fits gaussian Γ χ
     → (t : Tree) (S : Sort) → IsType S → Γ ⊢ t ∶ S → Shaped gaussian χ S (mean gaussian Γ χ t)
-
-abbrev pub GaussianCongruent : Type 0
-GaussianCongruent =
-    (Γ : Context) (χ : Choice Gaussian) → WellFormed Γ → Fits gaussian Γ χ
-    → (t : Tree) (S : Sort) (at : ℕ) (s u : Tree) (Q : Sort) → IsType S → IsType Q
-    → Γ ⊢ t ∶ S → subtree t at ≡ found s → Γ ⊢ s ∶ Q → Γ ⊢ u ∶ Q → EqualNumbers (mean gaussian Γ χ s) (mean gaussian Γ χ u)
-    → (Γ ⊢ replace t at u ∶ S) × EqualNumbers (mean gaussian Γ χ t) (mean gaussian Γ χ (replace t at u))

@@ -15,8 +15,7 @@ use Rattle.types.specs.Sorts.{Sort, Context, countsOf, _⊠_, Short}
 use Rattle.types.specs.Rules.{_⊢_∶_, IsType, WellFormed}
 use Rattle.meaning.specs.Choices.{Choice}
 use Rattle.meaning.specs.Meaning.{stands, mean}
-use Rattle.meaning.specs.Sorted.{Fits, Same}
-use Rattle.meaning.specs.Statements.{EqualNumbers}
+use Rattle.meaning.specs.Sorted.{Fits, Same, EqualNumbers}
 use Rattle.rules.specs.Table.{Rule, ruleOf}
 use Rattle.rules.specs.Instances.{Instance}
 use Rattle.rules.specs.Rewrite.{rewrite}

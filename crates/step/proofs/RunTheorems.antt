@@ -26,9 +26,8 @@ use Rattle.types.specs.Rules.{_⊢_∶_, WellFormed}
 use Rattle.types.proofs.Complete.{unique}
 use Rattle.meaning.specs.Choices.{Choice}
 use Rattle.meaning.specs.Meaning.{stands, mean}
-use Rattle.meaning.specs.Sorted.{Fits, Same}
-use Rattle.meaning.specs.Statements.{EqualNumbers}
-use Rattle.meaning.proofs.Theorems.{same-alike, alike-numbers}
+use Rattle.meaning.specs.Sorted.{Fits, Same, EqualNumbers}
+use Rattle.meaning.proofs.Theorems.{same-alike, alike-numbers, gaussian-shape}
 use Rattle.declarations.specs.Declarations.{contextIn}
 use Rattle.declarations.proofs.Entries.{well-formed}
 use Rattle.typing.specs.Answers.{HeldTerm, TypedTerm}
@@ -204,8 +203,10 @@ module _ (ds left : List ℕ) (n : ℕ) (right : List ℕ) (m : ℕ) (steps : Li
     unfolding mean
     numbers-of t u same χ F = alike-numbers _ _ .0 (same-alike S _ _ (b .left-term .isType) .0 (same _ gaussian gaussian-laws χ F))
 
-    alike : {t u : Tree} → Typed Γ S u → ((R : Type 0) (𝓐 : Arithmetic R) → StarSemiring 𝓐 → (χ : Choice R) → Fits 𝓐 Γ χ → Same S (stands 𝓐 Γ χ t) (stands 𝓐 Γ χ u)) → Alike Γ S t u
-    alike {t} {u} d same = record { typed = d; same = same; numbers = numbers-of t u same }
+    alike : {t u : Tree} → Typed Γ S t → Typed Γ S u → ((R : Type 0) (𝓐 : Arithmetic R) → StarSemiring 𝓐 → (χ : Choice R) → Fits 𝓐 Γ χ → Same S (stands 𝓐 Γ χ t) (stands 𝓐 Γ χ u)) → Alike Γ S t u
+    alike {t} {u} d k same =
+        let h = b .left-term .isType in
+        record { typed = k; same = same; numbers = numbers-of t u same; shapes = λ χ F. (gaussian-shape Γ χ W F t S h (d .rules), gaussian-shape Γ χ W F u S h (k .rules)) }
 
     lengths-by : (c : Bool) (r : Run) → eqb (r .code) 0 ≡ c → (answered r .left ≡ length (words (r .sides .left))) × (answered r .right ≡ length (words (r .sides .right)))
     unfolding answered compared
@@ -221,8 +222,8 @@ module _ (ds left : List ℕ) (n : ℕ) (right : List ℕ) (m : ℕ) (steps : Li
           left-slice = rw (run-at b) at (s .0);
           right-slice = rw (run-at b) at (s .1);
           lengths = rw (s .2, run-at b) l;
-          left-alike = alike (typed-end .left) (λ R 𝓐 𝓡 χ F. keeps R 𝓐 𝓡 χ F .2);
-          right-alike = alike (typed-end .right) (λ R 𝓐 𝓡 χ F. keeps R 𝓐 𝓡 χ F .3);
+          left-alike = alike (both b .left) (typed-end .left) (λ R 𝓐 𝓡 χ F. keeps R 𝓐 𝓡 χ F .2);
+          right-alike = alike (both b .right) (typed-end .right) (λ R 𝓐 𝓡 χ F. keeps R 𝓐 𝓡 χ F .3);
         }
 
 pub accepts : Accepts
@@ -236,7 +237,7 @@ proves ds left n right m steps count a =
     let b = begins ds left n right m steps count a in
     let W = well-formed ds (a .left-term .good) in
     let e : let q = runOf (contextIn ds) 0 (a .start) (movesIn steps count) .sides in q .left ≡ q .right = rw (run-all ds left n right m steps count a) (a .same) in
-    alike ds left n right m steps count b (its-type (a .right-term))
+    alike ds left n right m steps count b (its-type (a .left-term)) (its-type (a .right-term))
     (λ R 𝓐 𝓡 χ F. run-proves 𝓡 (contextIn ds) χ W F (a .sort) (a .start) (its-type (a .left-term)) (its-type (a .right-term)) 0 (movesIn steps count) e)
 
 pub decides : Decides

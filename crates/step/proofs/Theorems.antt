@@ -8,6 +8,7 @@ use Rattle.types.specs.Sorts.{Sort}
 use Rattle.declarations.specs.Declarations.{contextIn}
 use Rattle.declarations.proofs.Entries.{well-formed}
 use Rattle.typing.specs.Answers.{TypedTerm}
+use Rattle.meaning.proofs.Theorems.{gaussian-shape}
 use Rattle.rules.specs.Steps.{stepOf, stepsOf}
 use Rattle.rules.proofs.Steps.{step-decided, step-keeps-type, steps-keep-type, steps-keep-meaning, gaussian-steps}
 use Rattle.lent.specs.declared.steps.Step.{Step}
@@ -62,13 +63,15 @@ module _ {ds : List ℕ} {S : Sort} where
 pub lists : Lists
 lists ds w t S h ss =
     let W = well-formed ds (h .good) in
-    let d = its-type h in (
+    let d = its-type h in
+    let k = steps-keep-type _ W S t d (map asked ss) in (
       steps ds t ss,
       record {
         course = course h ss;
         left = left-after h ss;
-        typed = steps-keep-type _ W S t d (map asked ss);
+        typed = k;
         same = λ R 𝓐 𝓡 χ F. steps-keep-meaning 𝓡 _ χ W F S t d (map asked ss);
         numbers = λ χ F. gaussian-steps _ χ W F S (h .isType) t d (map asked ss);
+        shapes = λ χ F. (gaussian-shape _ χ W F t S (h .isType) (d .rules), gaussian-shape _ χ W F _ S (h .isType) (k .rules));
       },
     )

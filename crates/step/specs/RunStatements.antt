@@ -12,8 +12,7 @@ use Rattle.term.specs.Trees.{Tree, words}
 use Rattle.types.specs.Sorts.{Sort, Context}
 use Rattle.meaning.specs.Choices.{Choice}
 use Rattle.meaning.specs.Meaning.{stands, mean}
-use Rattle.meaning.specs.Sorted.{Fits, Same}
-use Rattle.meaning.specs.Statements.{EqualNumbers}
+use Rattle.meaning.specs.Sorted.{Shaped, Fits, Same, EqualNumbers}
 use Rattle.declarations.specs.Declarations.{contextIn}
 use Rattle.rules.specs.Statements.{Typed}
 use Rattle.rules.specs.Steps.{Sides, Run}
@@ -37,11 +36,12 @@ Decides =
 
 -- ---- what the sides stand for
 -- a term that a side holds at the end has the type of its first, and stands for the same: in shape and in the number at each row and column. The numbers may be of any star
--- semiring; `numbers` says it once more of the Gaussian integers
+-- semiring; `numbers` says it once more of the Gaussian integers. Demand 3: "with the shapes as declared": the shape is that of the type
 pub record Alike (Γ : Context) (S : Sort) (t u : Tree) : Type 1 where
   pub typed : Typed Γ S u
   pub same : (R : Type 0) (𝓐 : Arithmetic R) → StarSemiring 𝓐 → (χ : Choice R) → Fits 𝓐 Γ χ → Same S (stands 𝓐 Γ χ t) (stands 𝓐 Γ χ u)
   pub numbers : (χ : Choice Gaussian) → Fits gaussian Γ χ → EqualNumbers (mean gaussian Γ χ t) (mean gaussian Γ χ u)
+  pub shapes : (χ : Choice Gaussian) → Fits gaussian Γ χ → Shaped gaussian χ S (mean gaussian Γ χ t) × Shaped gaussian χ S (mean gaussian Γ χ u)
 
 -- Demand 3: "Each side keeps its meaning through every replay", refused ones included: codes 0, 20 to 23 and 30
 pub record Kept (ds left : List ℕ) (n : ℕ) (right : List ℕ) (m : ℕ) (steps : List ℕ) (count : ℕ) (p : Sides) (S : Sort) (q : Sides) : Type 1 where

@@ -10,8 +10,7 @@ use Rattle.term.specs.Trees.{Tree, words}
 use Rattle.types.specs.Sorts.{Sort}
 use Rattle.meaning.specs.Choices.{Choice}
 use Rattle.meaning.specs.Meaning.{stands, mean}
-use Rattle.meaning.specs.Sorted.{Fits, Same}
-use Rattle.meaning.specs.Statements.{EqualNumbers}
+use Rattle.meaning.specs.Sorted.{Shaped, Fits, Same, EqualNumbers}
 use Rattle.declarations.specs.Declarations.{contextIn}
 use Rattle.typing.specs.Answers.{typingOf, TypedTerm}
 use Rattle.rules.specs.Steps.{Stepped, stepOf}
@@ -73,13 +72,15 @@ pub data Course (ds : List ℕ) : Work → Tree → List Step → Tree → Type 
       → Course ds (after ds w s) (r .tree) ss u → Course ds w t (s ∷ ss) u
 
 -- Demand 3: "that term and the one left after the list are alike in the same way", in shape and in the number at each row and column. 01: "Both terms are read
--- under the same choice". The numbers may be of any star semiring; `numbers` says it once more of the Gaussian integers
+-- under the same choice". The numbers may be of any star semiring; `numbers` says it once more of the Gaussian integers, and `shapes` that both have the shape of the type
 pub record Kept (ds : List ℕ) (w : Work) (t : Tree) (S : Sort) (ss : List Step) (u : Tree) : Type 1 where
   pub course : Course ds w t ss u
   pub left : afterAll ds w ss ≡ leaving w ss u
   pub typed : Typed (contextIn ds) S u
   pub same : (R : Type 0) (𝓐 : Arithmetic R) → StarSemiring 𝓐 → (χ : Choice R) → Fits 𝓐 (contextIn ds) χ → Same S (stands 𝓐 (contextIn ds) χ t) (stands 𝓐 (contextIn ds) χ u)
   pub numbers : (χ : Choice Gaussian) → Fits gaussian (contextIn ds) χ → EqualNumbers (mean gaussian (contextIn ds) χ t) (mean gaussian (contextIn ds) χ u)
+  pub shapes : (χ : Choice Gaussian) → Fits gaussian (contextIn ds) χ
+      → Shaped gaussian χ S (mean gaussian (contextIn ds) χ t) × Shaped gaussian χ S (mean gaussian (contextIn ds) χ u)
 
 -- 01: "one claim about the whole list, not one for each step. A list begins with a typed term, one that none of 7, 8, 10 and 11 refuses, in a slice of 4,096
 -- words with any words behind". Demand 3: "any rules, places and indices, refused ones included"
