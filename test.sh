@@ -4,6 +4,11 @@
 # and from Rust, and on random files beside the checker in one process.
 set -euo pipefail
 cd "$(dirname "$0")"
+checked='rattle-kit-5b-plain logic 097e4c862dff5811'
+version=$(rt version)
+if [ "$version" != "$checked" ]; then
+    echo "test.sh: rt version says '$version', and the proofs were last checked under '$checked'; a proof that fails may be the toolchain's doing" >&2
+fi
 (cd checker && cargo test --release --offline)
 rt fmt --check
 log=$(mktemp)

@@ -87,11 +87,11 @@ uint64_t fejogbu_step(const uint16_t *declarations, size_t declarations_size, ui
 uint64_t fejogbu_typing(const uint16_t *declarations, size_t declarations_size, const uint16_t *term, size_t term_size, size_t n, uint64_t *answer,
                         size_t answer_size, uint16_t *rows, size_t rows_size, uint16_t *columns, size_t columns_size);
 
-/* ---- declarations put together. What is not done changes nothing */
+/* ---- declarations put together. What is not done changes nothing. The numbers are those of the codes: 6 and 7 say what they say of a file */
 #define FEJOGBU_PUT_DONE 0        /* The name is declared. */
-#define FEJOGBU_PUT_WRONG_SIZE 1  /* The slice is not 6,179 words long. */
-#define FEJOGBU_PUT_FULL 2        /* There are 32 names of this kind already. */
-#define FEJOGBU_PUT_BAD 3         /* There are too many types, or the words are not exactly the indices wanted. */
+#define FEJOGBU_PUT_WRONG_SIZE 1  /* The slice is not 6,179 words long: the calling program's doing, as code 1. */
+#define FEJOGBU_PUT_FULL 6        /* There are 32 names of this kind already. */
+#define FEJOGBU_PUT_BAD 7         /* There are too many types, or the words are not exactly the indices wanted. */
 
 /* Declares so many types, at most 32, and no basis and no variable, whatever stood in the slice before. */
 uint64_t fejogbu_start_declarations(uint16_t *declarations, size_t declarations_size, size_t types);

@@ -1,7 +1,7 @@
 //! The table of rules that the proofs are about says what this reading of 002
-//! says: every line, by its number. The proofs show that each line keeps type
-//! and matrix; that it is the rule that the papers give that number is seen
-//! here.
+//! says: every line, by its number and its name. The proofs show that each line
+//! keeps type and matrix; that it is the rule that the papers give that number
+//! is seen here.
 
 use checker::notation::{Item, Kind, Law};
 use checker::rules::{Rule, Way, RULES};
@@ -109,7 +109,7 @@ fn line(rule: &Rule) -> String {
         }
         Way::Swap => "swapping".to_string(),
     };
-    format!("{} ∶ {text} ∷", rule.number)
+    format!("{} {{- {} -}} ∶ {text} ∷", rule.number, rule.name)
 }
 
 #[test]

@@ -95,8 +95,8 @@ impl std::error::Error for Refused {}
 fn put(number: u64) -> Result<(), Refused> {
     match number {
         0 => Ok(()),
-        2 => Err(Refused::Full),
-        3 => Err(Refused::Bad),
+        6 => Err(Refused::Full),
+        7 => Err(Refused::Bad),
         _ => unreachable!("declarations are always of their size"),
     }
 }

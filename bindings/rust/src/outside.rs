@@ -128,6 +128,22 @@ mod tests {
         assert_eq!((left, right), ([7; 4095], [8; 4096]));
     }
 
+    /// What is not put is told by the number of the code: 1 the calling program's doing, 6 one too many, 7 a bad declaration.
+    #[test]
+    fn a_declaration_is_put_or_the_code_says_why() {
+        let index = [256u16];
+        let mut words = [5u16; 6179];
+        let at = words.as_mut_ptr();
+        let basis = |size| unsafe { fejogbu_put_basis(at, size, index.as_ptr(), 1) };
+        let start = |size, types| unsafe { fejogbu_start_declarations(at, size, types) };
+        assert_eq!([start(6178, 1), basis(6178)], [1, 1]);
+        assert_eq!([start(6179, 33), start(6179, 0), basis(6179)], [7, 0, 7]);
+        assert_eq!(start(6179, 1), 0);
+        let put: Vec<u64> = (0..33).map(|_| basis(6179)).collect();
+        assert_eq!((&put[..32], put[32]), (&[0; 32][..], 6));
+        assert_eq!(words[..3], [1, 32, 0]);
+    }
+
     /// A side that is neither 1 nor 2, a step past the slice and a step past the thousandth are not put.
     #[test]
     fn a_step_is_put_or_nothing_is_changed() {

@@ -1,6 +1,8 @@
 // The declarations of the cases of standard input, as numbers: how many types; how many bases, and of each the length and the words of its
 // index; how many variables, and of each the kind (0 scalar, 1 ket, 2 bra, 3 operator) and the lengths and words of both indices. A case
 // goes on behind them with what its program reads.
+ghost use mathlib.Core.Path.{_≡_};
+ghost use mathlib.Core.Bool.{false};
 use cases::input::narrow;
 use cases::input::next_count;
 use cases::input::next_number;
@@ -55,8 +57,10 @@ fn entries(ds: &mut [u16; 6179], are_bases: bool) {
     }
 }
 
-// Puts the next case's declarations together by their constructor, and says whether there was a case before the input ended.
-pub fn next_declarations(ds: &mut [u16; 6179]) -> bool {
+// Puts the next case's declarations together by their constructor, and says whether there was a case before the input ended; where there was none, the words stay.
+pub fn next_declarations(ds: &mut [u16; 6179]) -> bool
+    ensures { λ r. ⌜ (r ≡ false → now (ds .exit) ≡ now (ds .entry)) ⌝ }
+{
     let types = number_or_end();
     if types.last {
         return false;

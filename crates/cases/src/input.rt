@@ -1,5 +1,9 @@
 // Standard input as names and decimal numbers with one byte behind each, and as bytes. Any input is read: a number over the greatest usize
 // counts as that one, and the end of the input ends a name and a number too.
+ghost use mathlib.Core.Path.{_≡_};
+ghost use Prim.Native.Nat.{_≤_, min};
+ghost use lib.ListN.{length, set};
+ghost use Rattle.cases.specs.Slices.{filled, Front, Taken};
 use crate::output;
 use libc::STDIN_FILENO;
 
@@ -89,7 +93,10 @@ pub fn next_number() -> usize {
     n.value
 }
 
-pub fn narrow(value: usize) -> u16 {
+// The number as a word; one over 65,535 counts as that.
+pub fn narrow(value: usize) -> u16
+    ensures { λ r. ⌜ r ≡ min value 65535 ⌝ }
+{
     if 65535 < value {
         return 65535;
     }
@@ -97,7 +104,9 @@ pub fn narrow(value: usize) -> u16 {
 }
 
 // How many others follow. A number over 65,535 counts as 65,535, so that whoever reads so many comes to an end soon.
-pub fn next_count() -> usize {
+pub fn next_count() -> usize
+    ensures { λ r. ⌜ r ≤ 65535 ⌝ }
+{
     output::wide(narrow(next_number()))
 }
 
@@ -144,14 +153,18 @@ pub fn next_name() -> bool {
 }
 
 // A word that has no place in the slice is dropped.
-pub fn store(ws: &mut [u16], i: usize, word: u16) {
+pub fn store(ws: &mut [u16], i: usize, word: u16)
+    ensures { λ _. ⌜ now (ws .exit) ≡ set (now (ws .entry)) i word ⌝ }
+{
     if i < ws.len() {
         ws[i] = word;
     }
 }
 
 // Puts a word to the offsets from `from` up to `to`.
-pub fn fill(ws: &mut [u16], from: usize, to: usize, word: u16) {
+pub fn fill(ws: &mut [u16], from: usize, to: usize, word: u16)
+    ensures { λ _. ⌜ now (ws .exit) ≡ filled (now (ws .entry)) from to word ⌝ }
+{
     let mut i = from;
     while i < to {
         store(ws, i, word);
@@ -160,7 +173,9 @@ pub fn fill(ws: &mut [u16], from: usize, to: usize, word: u16) {
 }
 
 // The first `n` words, or all where there are fewer.
-pub fn front(ws: &[u16], n: usize) -> &[u16] {
+pub fn front(ws: &[u16], n: usize) -> &[u16]
+    ensures { λ r. ⌜ Front (ws .entry) n r ⌝ }
+{
     if n < ws.len() {
         return &ws[..n];
     }
@@ -168,7 +183,9 @@ pub fn front(ws: &[u16], n: usize) -> &[u16] {
 }
 
 // The same of a slice that is written.
-pub fn front_mut(ws: &mut [u16], n: usize) -> &mut [u16] {
+pub fn front_mut(ws: &mut [u16], n: usize) -> &mut [u16]
+    ensures { λ r. ⌜ Front (ws .entry) n r ⌝ }
+{
     if n < ws.len() {
         return &mut ws[..n];
     }
@@ -176,7 +193,9 @@ pub fn front_mut(ws: &mut [u16], n: usize) -> &mut [u16] {
 }
 
 // How many words follow, and these, which are put to the front of `room`.
-pub fn next_words(room: &mut [u16]) -> &[u16] {
+pub fn next_words(room: &mut [u16]) -> &[u16]
+    ensures { λ r. ⌜ Taken (room .entry) 65535 r ⌝ }
+{
     let n = next_count();
     let mut i = 0;
     while i < n {
@@ -187,7 +206,9 @@ pub fn next_words(room: &mut [u16]) -> &[u16] {
 }
 
 // The first `n` bytes, or all where there are fewer.
-fn front_bytes(bytes: &[u8], n: usize) -> &[u8] {
+fn front_bytes(bytes: &[u8], n: usize) -> &[u8]
+    ensures { λ r. ⌜ Front (bytes .entry) n r ⌝ }
+{
     if n < bytes.len() {
         return &bytes[..n];
     }
@@ -196,7 +217,9 @@ fn front_bytes(bytes: &[u8], n: usize) -> &[u8] {
 
 // Puts the next `n` bytes to the front of `room`, or as many as it holds, and says how many there were. They are not read one by one, since
 // they may be many.
-fn read_bytes(room: &mut [u8], n: usize) -> usize {
+fn read_bytes(room: &mut [u8], n: usize) -> usize
+    ensures { λ r. ⌜ r ≤ min n (length (now (room .entry))) ⌝ }
+{
     if n < room.len() {
         return io::read_full(STDIN_FILENO, &mut room[..n]);
     }
@@ -204,7 +227,9 @@ fn read_bytes(room: &mut [u8], n: usize) -> usize {
 }
 
 // The next `n` bytes, whatever they are, which are put to the front of `room`: fewer where the input ends or there is no more room.
-pub fn next_bytes(room: &mut [u8], n: usize) -> &[u8] {
+pub fn next_bytes(room: &mut [u8], n: usize) -> &[u8]
+    ensures { λ r. ⌜ Taken (room .entry) n r ⌝ }
+{
     let got = read_bytes(room, n);
     front_bytes(room, got)
 }

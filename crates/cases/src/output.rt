@@ -1,4 +1,5 @@
 // Writes answers to standard output, as decimal numbers with a space between them.
+ghost use mathlib.Core.Path.{_≡_};
 use crate::input::front;
 use libc::STDOUT_FILENO;
 
@@ -25,7 +26,10 @@ pub fn end_line() {
     io::write_all(STDOUT_FILENO, b"\n");
 }
 
-pub fn wide(word: u16) -> usize {
+// The word as a number.
+pub fn wide(word: u16) -> usize
+    ensures { λ r. ⌜ r ≡ word ⌝ }
+{
     word as usize
 }
 

@@ -1,4 +1,5 @@
--- Where a reader stands behind the piece that it reads, and whether it is at the end: 01, "The reader holds the file's bytes and its own place".
+-- Where a reader stands behind the piece that it reads, and whether it is at the end, as functions for the code to equal. What to believe of a file's lines and fields is `linesOf` and
+-- `parted` of `text` Pieces. 01: "The reader holds the file's bytes and its own place".
 use mathlib.Core.Bool.{Bool, cond}
 use Prim.Native.Nat.{ℕ, _+_}
 use lib.Dec.{leb}

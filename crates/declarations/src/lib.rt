@@ -1,6 +1,7 @@
 // Declarations as a caller lends them: one slice of words of fixed layout.
 pub mod constructor;
 
+use term::heads::INDEX_PRODUCT;
 use term::parts::part_end;
 use term::terms::Names;
 ghost use mathlib.Core.Path.{_≡_};
@@ -22,7 +23,7 @@ fn is_index_word(types: usize, word: u16) -> bool
         let name = (word % 256) as usize;
         return name < types;
     }
-    word == 512
+    word == INDEX_PRODUCT
 }
 
 fn are_index_words(types: usize, ws: &[u16]) -> bool
@@ -46,7 +47,7 @@ pub fn is_index(types: usize, ws: &[u16]) -> bool
         return false;
     }
     if ws.len() == 1 {
-        if ws[0] == 512 {
+        if ws[0] == INDEX_PRODUCT {
             return false;
         }
         return is_index_word(types, ws[0]);

@@ -5,8 +5,7 @@ use mathlib.Core.List.{List}
 use Prim.Native.Nat.{ℕ}
 use native.Mathlib.Omega.{arith}
 use lib.ListN.{length}
-use Rattle.format.specs.Files.{File}
-use Rattle.format.specs.Statements.{Written}
+use Rattle.format.specs.Files.{File, Written}
 use Rattle.format.specs.Kept.{declarationsOf, padded, stepsOf}
 use Rattle.format.proofs.Stepped.{steps-in-order}
 use Rattle.step.specs.declared.run.Answer as A

@@ -2,7 +2,7 @@
 use mathlib.Core.List.{List}
 use Prim.Native.Nat.{ℕ}
 use Rattle.step.specs.declared.run.Answer as A
-use Rattle.file.specs.Demands.{Behind, Exactly, EqualSides}
+use Rattle.file.specs.Demands.{Behind, Exactly, Named, EqualSides, EqualEnds}
 use Rattle.file.proofs.Performed.{Replayed}
 use Rattle.file.proofs.Demands.{demand1, demand2, demand3}
 
@@ -13,5 +13,13 @@ module _ {bytes left right : List ℕ} {a : A.Answer} {l r : List ℕ} (x : Repl
   pub exactly : Exactly bytes left right a
   exactly = rw (x .answer) (demand2 .accepts bytes left right)
 
+  pub named : Named bytes left right a l r
+  named = rw (x .answer, x .left-slice, x .right-slice) (demand2 .otherwise bytes left right)
+
+  pub equal-ends : EqualEnds bytes a l r
+  equal-ends =
+      rw (x .answer, x .left-slice, x .right-slice)
+      (λ h. let k = demand3 .keeps bytes left right h in (k .ends, k .left-alike .numbers, k .right-alike .numbers))
+
 pub equal-sides : (bytes : List ℕ) → EqualSides bytes
-equal-sides bytes y χ h = demand3 .proves bytes y .numbers χ h
+equal-sides bytes y = demand3 .proves bytes y .numbers

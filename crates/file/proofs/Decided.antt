@@ -13,8 +13,8 @@ use Rattle.format.specs.Kept.{declarationsOf, padded, stepsOf}
 use Rattle.format.proofs.Stepped.{steps-in-order}
 use Rattle.step.specs.declared.run.Answer as A
 use Rattle.step.specs.Derivations as D
-use Rattle.file.specs.Files.{LateCode, of-types, of-step, of-ends, of-none, RunDecides}
-use Rattle.file.proofs.Late.{Late, not-between, stopped-code}
+use Rattle.file.specs.Files.{LateCode, of-types, of-step, of-ends, of-none, RunDecides, PastTypes}
+use Rattle.file.proofs.Late.{not-between, stopped-code}
 use Rattle.file.proofs.Sides.{side-held}
 
 module _ (f : File) (o : InOrder f) where
@@ -44,7 +44,7 @@ module _ (f : File) (o : InOrder f) where
   run-code (D.accepted a) = of-none
 
   -- accepted, or refused only at a step or because the ends differ: it began
-  pub run-begun : {a : A.Answer} {l r : List ℕ} → RunDecides f a l r → Late (a .code) → (p : Sides) × (S : Sort) × Begins p S
+  pub run-begun : {a : A.Answer} {l r : List ℕ} → RunDecides f a l r → PastTypes (a .code) → (p : Sides) × (S : Sort) × Begins p S
   run-begun (D.untouched x) e = absurd (not-between e (omega (arith, refused-code x)))
   run-begun (D.refused h x) e = absurd (not-between e (omega (arith, refused-code x)))
   run-begun (D.stopped b s) e = (_, _, b)

@@ -13,17 +13,16 @@ use Rattle.declarations.specs.Declarations.{contextIn, goodDeclarations}
 use Rattle.declarations.proofs.Entries.{well-formed}
 use Rattle.rules.specs.Steps.{Sides}
 use Rattle.lent.specs.Refusals.{Begun}
-use Rattle.format.specs.Files.{File, contextOf}
-use Rattle.format.specs.Statements.{Written}
+use Rattle.format.specs.Files.{File, contextOf, Written}
 use Rattle.format.specs.Kept.{declarationsOf, padded, stepsOf}
 use Rattle.format.proofs.Declared.{declared}
 use Rattle.step.specs.declared.run.Answer as A
-use Rattle.step.specs.RunStatements.{Alike}
+use Rattle.step.specs.Alike.{Alike}
 use Rattle.step.proofs.RunTheorems as T
 use Rattle.file.specs.Replays.{replayAnswer}
-use Rattle.file.specs.Files.{Accepted, Sized, Decision, wrong-size, unread, replayed}
+use Rattle.file.specs.Files.{Accepted, Sized, Decision, wrong-size, unread, replayed, PastTypes}
 use Rattle.file.specs.Demands.{Kept}
-use Rattle.file.proofs.Late.{Late, not-between}
+use Rattle.file.proofs.Late.{not-between}
 use Rattle.file.proofs.Sides.{context, typed-side, alike-of}
 use Rattle.file.proofs.Decided.{run-begun}
 use Rattle.file.proofs.Replayed.{decided, answer-of, left-of, right-of}
@@ -47,7 +46,7 @@ record Started (bytes left right : List ℕ) : Type 0 where
   sort : Sort
   begun : Begun (declarationsOf file) (padded (file .left)) (length (file .left)) (padded (file .right)) (length (file .right)) (stepsOf file) (length (file .steps)) start sort
 
-started : {bytes left right : List ℕ} {a : A.Answer} {l r : List ℕ} → Decision bytes left right a l r → Late (a .code) → Started bytes left right
+started : {bytes left right : List ℕ} {a : A.Answer} {l r : List ℕ} → Decision bytes left right a l r → PastTypes (a .code) → Started bytes left right
 started (wrong-size x) h = absurd (not-between h (omega arith))
 started (unread s e x y) h = absurd (not-between h (omega arith))
 started (replayed {f} s w d) h =
@@ -63,18 +62,20 @@ kept {bytes} {left} {right} s =
     let q = k .1 in
     let e = answer-of bytes left right f (s .sizes) w in
     record {
-      file = f;
-      written = w;
-      start = s .start;
-      end = k .0;
-      sort = s .sort;
-      left-side = typed-side f o (f .left) (s .begun .left-term);
-      right-side = typed-side f o (f .right) (s .begun .right-term);
-      left-slice = (left-of bytes left right f (s .sizes) w ∙ q .left-slice, ap (λ (x : A.Answer). x .left) e ∙ q .lengths .0);
-      right-slice = (right-of bytes left right f (s .sizes) w ∙ q .right-slice, ap (λ (x : A.Answer). x .right) e ∙ q .lengths .1);
+      ends = record {
+        file = f;
+        written = w;
+        start = s .start;
+        end = k .0;
+        sort = s .sort;
+        left-side = typed-side f o (f .left) (s .begun .left-term);
+        right-side = typed-side f o (f .right) (s .begun .right-term);
+        left-slice = (left-of bytes left right f (s .sizes) w ∙ q .left-slice, ap (λ (x : A.Answer). x .left) e ∙ q .lengths .0);
+        right-slice = (right-of bytes left right f (s .sizes) w ∙ q .right-slice, ap (λ (x : A.Answer). x .right) e ∙ q .lengths .1);
+      };
       left-alike = alike-of f o (q .left-alike);
       right-alike = alike-of f o (q .right-alike);
     }
 
-pub keeps : (bytes left right : List ℕ) → Late (replayAnswer bytes left right .code) → Kept bytes left right
+pub keeps : (bytes left right : List ℕ) → PastTypes (replayAnswer bytes left right .code) → Kept bytes left right
 keeps bytes left right h = kept (started (decided bytes left right) h)

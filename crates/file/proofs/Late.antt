@@ -1,24 +1,21 @@
 -- The codes of steps: 0, or from 20 to 23; and 1 is no code of a file of the form.
 use mathlib.Core.Path.{_≡_, refl}
-use mathlib.Core.Logic.{_≢_, _⊎_, inl, inr}
+use mathlib.Core.Logic.{_≢_, inl, inr}
 use mathlib.Core.List.{List}
 use Prim.Native.Nat.{ℕ, _≤_, _<_}
 use native.Mathlib.Omega.{arith}
 use Rattle.term.specs.Trees.{Tree}
 use Rattle.types.specs.Sorts.{Context}
 use Rattle.rules.specs.Steps.{Step, Move, Sides, Run}
-use Rattle.rules.specs.Statements.{Outcome, good, no-rule, no-place, no-instance, too-big}
+use Rattle.rules.specs.Outcomes.{Outcome, good, no-rule, no-place, no-instance, too-big}
 use Rattle.step.specs.Derivations.{Stopped, bad, later}
-use Rattle.file.specs.Files.{LateCode, of-types, of-step, of-ends, of-none}
+use Rattle.file.specs.Files.{LateCode, PastTypes, of-types, of-step, of-ends, of-none}
 
-abbrev pub Late : ℕ → Type 0
-Late c = (c ≡ 0) ⊎ (20 ≤ c)
-
-pub not-between : {c : ℕ} → Late c → (0 < c) × (c < 20) → ⊥
+pub not-between : {c : ℕ} → PastTypes c → (0 < c) × (c < 20) → ⊥
 not-between (inl e) h = omega arith
 not-between (inr k) h = omega arith
 
-pub outcome-code : {Γ : Context} {t u : Tree} {s : Step} {c : ℕ} → Outcome Γ t s c u → Late c × (c ≤ 23)
+pub outcome-code : {Γ : Context} {t u : Tree} {s : Step} {c : ℕ} → Outcome Γ t s c u → PastTypes c × (c ≤ 23)
 outcome-code (good u h) = (inl refl, omega arith)
 outcome-code (no-rule h) = (inr (omega arith), omega arith)
 outcome-code (no-place h k) = (inr (omega arith), omega arith)
@@ -26,7 +23,7 @@ outcome-code (no-instance h k x) = (inr (omega arith), omega arith)
 outcome-code (too-big h k x l) = (inr (omega arith), omega arith)
 
 -- a run stops with a code from 20 to 23
-bad-code : {c : ℕ} → Late c → c ≢ 0 → 20 ≤ c
+bad-code : {c : ℕ} → PastTypes c → c ≢ 0 → 20 ≤ c
 bad-code (inl e) h = absurd (h e)
 bad-code (inr k) h = k
 

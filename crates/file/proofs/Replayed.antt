@@ -7,9 +7,8 @@ use borrow.Author.Tests.{eqb-true, eq-eqb}
 use lib.Dec.{eqb}
 use lib.ListN.{length}
 use Rattle.term.specs.Terms.{maxWords}
-use Rattle.format.specs.Files.{File}
+use Rattle.format.specs.Files.{File, Written}
 use Rattle.format.specs.Reading.{Reading, fault, read, readOf}
-use Rattle.format.specs.Statements.{Written}
 use Rattle.format.specs.Kept.{declarationsOf, padded, stepsOf}
 use Rattle.format.proofs.Whole.{reads}
 use Rattle.lent.proofs.Judging.{not-both}

@@ -19,7 +19,7 @@ use Rattle.format.proofs.Declared.{declared, names-declared}
 use Rattle.format.proofs.Stepped.{moves-kept}
 use Rattle.format.proofs.Padded.{padded-front, padded-size}
 use Rattle.step.specs.Derivations.{AllTaken}
-use Rattle.step.specs.RunStatements.{Alike}
+use Rattle.step.specs.Alike.{Alike}
 use Rattle.file.specs.Files.{TypedSide}
 
 module _ (f : File) (o : InOrder f) where

@@ -11,6 +11,7 @@ use lib.ListN.{length}
 use Rattle.term.specs.Trees.{Tree}
 use Rattle.types.specs.Sorts.{Sort}
 use Rattle.declarations.specs.Declarations.{contextIn}
+use Rattle.declarations.proofs.Entries.{well-formed}
 use Rattle.typing.specs.Answers.{typingOf, TypedTerm}
 use Rattle.typing.proofs.Theorems.{sound-entry}
 use Rattle.rules.specs.Steps.{stepOf}
@@ -19,6 +20,7 @@ use Rattle.lent.specs.declared.steps.Step.{Step}
 use Rattle.lent.specs.Lent.{asked}
 use Rattle.step.specs.Answers.{stepped, answerTo, wordsLeft}
 use Rattle.step.specs.declared.single.Answer.{Answer}
+use Rattle.step.proofs.Held.{its-type}
 use Rattle.step.proofs.Theorems.{entry, refusals}
 use Rattle.file.specs.Demands.{ZerosBehind}
 use Rattle.file.proofs.Late.{not-between, outcome-code}
@@ -29,7 +31,7 @@ module _ (ds ws : List ℕ) (n : ℕ) (s : Step) where
   module _ {t : Tree} {S : Sort} (h : TypedTerm ds ws n t S) where
     typed-code : answerTo ds ws n s .code ≢ 1
     unfolding stepped
-    typed-code = rw (entry ds ws n t S h s .answer) (λ e. not-between (outcome-code (step-decided (contextIn ds) t (asked s) (h .term .formed)) .0) (omega arith))
+    typed-code = rw (entry ds ws n t S h s .answer) (λ e. not-between (outcome-code (step-decided (contextIn ds) (well-formed ds (h .good)) S t (its-type h) (asked s)) .0) (omega arith))
 
     typed-zeros : ZerosBehind (answerTo ds ws n s .length) (wordsLeft ds ws n s)
     unfolding stepped

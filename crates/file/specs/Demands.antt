@@ -1,12 +1,12 @@
 -- The three demands, as the customer wrote them, each sentence beside what it says of the replay and of the single step. `proofs/Demands` holds a value of each.
 use mathlib.Core.Path.{_≡_}
-use mathlib.Core.Logic.{_↔_, _≢_, _⊎_}
+use mathlib.Core.Logic.{_↔_, _≢_}
 use mathlib.Core.Bool.{true}
 use mathlib.Core.List.{List}
-use Prim.Native.Nat.{ℕ, _-_, _≤_}
+use Prim.Native.Nat.{ℕ, _-_}
 use lib.ListN.{length, drop, replicate}
 use Rattle.algebra.specs.Gaussian.{Gaussian, gaussian}
-use Rattle.term.specs.Trees.{words}
+use Rattle.term.specs.Trees.{Tree, words}
 use Rattle.types.specs.Sorts.{Sort}
 use Rattle.meaning.specs.Choices.{Choice}
 use Rattle.meaning.specs.Meaning.{mean}
@@ -15,16 +15,15 @@ use Rattle.declarations.specs.Declarations.{contextIn, goodDeclarations}
 use Rattle.rules.specs.Steps.{Sides}
 use Rattle.lent.specs.declared.steps.Step.{Step}
 use Rattle.lent.specs.Lent.{movesIn}
-use Rattle.format.specs.Files.{File, contextOf}
-use Rattle.format.specs.Statements.{Written}
+use Rattle.format.specs.Files.{File, contextOf, Written}
 use Rattle.format.specs.Kept.{declarationsOf, stepsOf}
 use Rattle.step.specs.declared.run.Answer as A
 use Rattle.step.specs.Answers.{held, answerTo, wordsLeft}
 use Rattle.step.specs.Runs.{runAnswer, leftAfter, rightAfter}
 use Rattle.step.specs.Statements.{Lists}
-use Rattle.step.specs.RunStatements.{Alike}
+use Rattle.step.specs.Alike.{Alike}
 use Rattle.file.specs.Replays.{replayAnswer, leftReplayed, rightReplayed}
-use Rattle.file.specs.Files.{TypedSide, Accepted, LateCode, RunDecides, Sized, Decision}
+use Rattle.file.specs.Files.{TypedSide, Accepted, LateCode, PastTypes, RunDecides, Sized, Decision}
 
 -- ---- Demand 1
 -- "each word behind the end of a term is zero"; where there is no term its length is 0
@@ -59,8 +58,8 @@ pub record Demand2 : Type 0 where
   pub lends : (bytes : List ℕ) (f : File) → Written bytes f → movesIn (stepsOf f) (length (f .steps)) ≡ f .steps
 
 -- ---- Demand 3
--- a file that is accepted, or refused only at a step or because its ends differ: its own terms, and what the replay leaves of them
-pub record Kept (bytes left right : List ℕ) : Type 1 where
+-- a file that is accepted, or refused only at a step or because its ends differ: its own terms, and the terms that stand in the slices behind the answer a
+pub record Ends (bytes : List ℕ) (a : A.Answer) (l r : List ℕ) : Type 0 where
   pub file : File
   pub written : Written bytes file
   pub start : Sides
@@ -68,10 +67,13 @@ pub record Kept (bytes left right : List ℕ) : Type 1 where
   pub sort : Sort
   pub left-side : TypedSide file (file .left) (start .left) sort
   pub right-side : TypedSide file (file .right) (start .right) sort
-  pub left-slice : (leftReplayed bytes left right ≡ held (end .left)) × (replayAnswer bytes left right .left ≡ length (words (end .left)))
-  pub right-slice : (rightReplayed bytes left right ≡ held (end .right)) × (replayAnswer bytes left right .right ≡ length (words (end .right)))
-  pub left-alike : Alike (contextOf file) sort (start .left) (end .left)
-  pub right-alike : Alike (contextOf file) sort (start .right) (end .right)
+  pub left-slice : (l ≡ held (end .left)) × (a .left ≡ length (words (end .left)))
+  pub right-slice : (r ≡ held (end .right)) × (a .right ≡ length (words (end .right)))
+
+pub record Kept (bytes left right : List ℕ) : Type 1 where
+  pub ends : Ends bytes (replayAnswer bytes left right) (leftReplayed bytes left right) (rightReplayed bytes left right)
+  pub left-alike : Alike (contextOf (ends .file)) (ends .sort) (ends .start .left) (ends .end .left)
+  pub right-alike : Alike (contextOf (ends .file)) (ends .sort) (ends .start .right) (ends .end .right)
 
 -- "For every accepted file, .. the number at each row and column of the matrix that the left term in it stands for equals the number there for the right term in it: for every dimension from 1 up ..,
 -- every index inside its range .., and every Gaussian integer put into the entries of the variables, with the shapes as declared. Where a file is accepted, or refused only at a step or because its
@@ -82,7 +84,7 @@ pub record Demand3 : Type 1 where
   pub chooses : (bytes : List ℕ) (f : File) → Written bytes f → EveryChoice gaussian (contextOf f)
   pub chooses-lent : (ds : List ℕ) → goodDeclarations ds ≡ true → EveryChoice gaussian (contextIn ds)
   pub proves : (bytes : List ℕ) (a : Accepted bytes) → Alike (contextOf (a .file)) (a .sort) (a .start .left) (a .start .right)
-  pub keeps : (bytes left right : List ℕ) → (replayAnswer bytes left right .code ≡ 0) ⊎ (20 ≤ replayAnswer bytes left right .code) → Kept bytes left right
+  pub keeps : (bytes left right : List ℕ) → PastTypes (replayAnswer bytes left right .code) → Kept bytes left right
   pub lists : Lists
 
 -- ---- the same of one call, as far as a clause of the entry's contract can say it
@@ -94,7 +96,18 @@ Behind left right a l r = (a .code ≢ 1 → ZerosBehind (a .left) l × ZerosBeh
 abbrev pub Exactly : List ℕ → List ℕ → List ℕ → A.Answer → Type 0
 Exactly bytes left right a = Sized left right → (a .code ≡ 0) ↔ Accepted bytes
 
--- demand 3: the number at each row and column, over the Gaussian integers
+-- demand 2: otherwise the first fault is named, of a file of the form
+abbrev pub Named : List ℕ → List ℕ → List ℕ → A.Answer → List ℕ → List ℕ → Type 0
+Named bytes left right a l r = (f : File) → Sized left right → Written bytes f → RunDecides f a l r
+
+-- demand 3: the number at each row and column, over the Gaussian integers, under what a file declares
+abbrev pub EqualTerms : File → Tree → Tree → Type 0
+EqualTerms f t u = (χ : Choice Gaussian) → Fits gaussian (contextOf f) χ → EqualNumbers (mean gaussian (contextOf f) χ t) (mean gaussian (contextOf f) χ u)
+
+-- of an accepted file's two terms
 abbrev pub EqualSides : List ℕ → Type 0
-EqualSides bytes = (a : Accepted bytes) (χ : Choice Gaussian) → Fits gaussian (contextOf (a .file)) χ
-    → EqualNumbers (mean gaussian (contextOf (a .file)) χ (a .start .left)) (mean gaussian (contextOf (a .file)) χ (a .start .right))
+EqualSides bytes = (a : Accepted bytes) → EqualTerms (a .file) (a .start .left) (a .start .right)
+
+-- and of each side's term and what is left of it
+abbrev pub EqualEnds : List ℕ → A.Answer → List ℕ → List ℕ → Type 0
+EqualEnds bytes a l r = PastTypes (a .code) → (e : Ends bytes a l r) × EqualTerms (e .file) (e .start .left) (e .end .left) × EqualTerms (e .file) (e .start .right) (e .end .right)

@@ -1,5 +1,6 @@
--- The same without functions: when a file is accepted, and every answer of its replay.
+-- When a file is accepted, and every answer of its replay: the relations that `replayAnswer` of `Replays` answers.
 use mathlib.Core.Path.{_≡_}
+use mathlib.Core.Logic.{_⊎_}
 use mathlib.Core.List.{List}
 use Prim.Native.Nat.{ℕ, _≤_}
 use lib.ListN.{length, replicate}
@@ -8,9 +9,8 @@ use Rattle.term.specs.Terms.{maxWords, IsTerm}
 use Rattle.types.specs.Sorts.{Sort}
 use Rattle.types.specs.Rules.{_⊢_∶_, IsType}
 use Rattle.text.specs.Pieces.{Text}
-use Rattle.format.specs.Files.{File, namesOf, contextOf}
+use Rattle.format.specs.Files.{File, namesOf, contextOf, Written}
 use Rattle.format.specs.Reading.{fault, readOf}
-use Rattle.format.specs.Statements.{Written}
 use Rattle.format.specs.Kept.{declarationsOf, padded, stepsOf}
 use Rattle.rules.specs.Steps.{Sides}
 use Rattle.step.specs.declared.run.Answer as A
@@ -44,6 +44,10 @@ pub data LateCode : ℕ → Type 0 where
   of-step : {c : ℕ} → 20 ≤ c → c ≤ 23 → LateCode c
   of-ends : LateCode 30
   of-none : LateCode 0
+
+-- Demand 3: "Where a file is accepted, or refused only at a step or because its ends differ": the codes behind those of types
+abbrev pub PastTypes : ℕ → Type 0
+PastTypes c = (c ≡ 0) ⊎ (20 ≤ c)
 
 -- what a run of the file's own words decides, with the two slices that it leaves
 abbrev pub RunDecides : File → A.Answer → List ℕ → List ℕ → Type 0

@@ -4,7 +4,7 @@ use step::run::Answer;
 use step::run::run_steps;
 ghost use mathlib.Core.Path.{_≡_};
 ghost use Rattle.file.specs.Replays.{refusal, replayAnswer, leftReplayed, rightReplayed};
-ghost use Rattle.file.specs.Demands.{Behind, Exactly, EqualSides};
+ghost use Rattle.file.specs.Demands.{Behind, Exactly, Named, EqualSides, EqualEnds};
 
 fn refused_with(code: usize, at: usize) -> Answer
     ensures { λ r. ⌜ r ≡ refusal code at ⌝ }
@@ -26,7 +26,9 @@ pub fn replay(bytes: &[u8], left: &mut [u16], right: &mut [u16]) -> Answer
     ensures slices { λ r. ⌜ (now (left .exit) ≡ leftReplayed (now (bytes .entry)) (now (left .entry)) (now (right .entry))) × (now (right .exit) ≡ rightReplayed (now (bytes .entry)) (now (left .entry)) (now (right .entry))) ⌝ }
     ensures demand1 { λ r. ⌜ Behind (now (left .entry)) (now (right .entry)) r (now (left .exit)) (now (right .exit)) ⌝ }
     ensures demand2 { λ r. ⌜ Exactly (now (bytes .entry)) (now (left .entry)) (now (right .entry)) r ⌝ }
+    ensures otherwise { λ r. ⌜ Named (now (bytes .entry)) (now (left .entry)) (now (right .entry)) r (now (left .exit)) (now (right .exit)) ⌝ }
     ensures demand3 { λ _. ⌜ EqualSides (now (bytes .entry)) ⌝ }
+    ensures keeps { λ r. ⌜ EqualEnds (now (bytes .entry)) r (now (left .exit)) (now (right .exit)) ⌝ }
 {
     let mut ds = [0u16; 6179];
     let mut steps = [0u16; 8000];

@@ -1,4 +1,4 @@
--- What was read in each stage: the file so far is in order, and the lines so far are those written of it.
+-- Each line that is taken leads from a stage to the next: the file so far is in order, and the lines so far are those written of it.
 use mathlib.Core.Path.{_≡_, refl}
 use mathlib.Core.Bool.{true, false}
 use mathlib.Core.List.{List, [], _∷_, _++_, append-nil}
@@ -13,21 +13,13 @@ use Rattle.lent.specs.Lent.{maxSteps}
 use Rattle.text.specs.Pieces.{Text}
 use Rattle.text.specs.Numbers.{decimal}
 use Rattle.format.specs.Files.{Types, Basis, Var, Step, Variable, File, keyText, header, lines, namesOf, allIndices, allVariables, isStep, allSteps, Sound, InOrder}
+use Rattle.format.specs.Code.Reached.{basisLine, variableLine, leftLine, rightLine, stepLine, stepLines, Reached, start, bases, variables, left-side, steps, done}
 use Rattle.format.specs.Reading.{full, nothing, andBasis, andVariable, andLeft, andRight, andStep}
 use Rattle.format.proofs.Declared.{indices-more, variables-good-more}
 use Rattle.format.proofs.Values.{types, basis, variable, left, right, step, end, andTypes}
 use Rattle.format.proofs.Lines.{types-first, in-bases, first-variable, more-variables, behind-bases, behind-variables, behind-left, in-steps, behind-steps, Taken, taken}
 use Rattle.format.proofs.Runs.{Run, stop, more}
-use Rattle.format.proofs.Stated.{basisLine, variableLine, leftLine, rightLine, stepLine, stepLines}
 use Rattle.format.proofs.Stated.{one-more, steps-more, header-basis, header-variable, lines-right, lines-step}
-
-pub data Reached : ℕ → File → List Text → Type 0 where
-  start : Reached 0 nothing []
-  bases : {f : File} → Sound f → f .variables ≡ [] → f .steps ≡ [] → Reached 1 f (header f)
-  variables : {f : File} → Sound f → f .steps ≡ [] → Reached 2 f (header f)
-  left-side : {f : File} → Sound f → f .steps ≡ [] → termWords (namesOf f) (f .left) ≡ true → Reached 3 f (header f ++ leftLine f ∷ [])
-  steps : {f : File} → InOrder f → Reached 4 f (header f ++ leftLine f ∷ rightLine f ∷ stepLines f)
-  done : {f : File} → InOrder f → Reached 5 f (lines f)
 
 -- ---- by a line of each key
 with-types : (n : ℕ) → n ≤ maxNames → Reached 1 (andTypes nothing n) ((keyText Types ++ decimal n) ∷ [])

@@ -18,7 +18,7 @@ use Rattle.format.specs.Reading.{full, nothing, andBasis, andVariable, a
 use Rattle.format.proofs.Values.{types, basis, variable, left, right, step, end, andTypes}
 use Rattle.format.proofs.Lines.{Fit, types-first, in-bases, first-variable, more-variables, behind-bases, behind-variables, behind-left, in-steps, behind-steps, taken}
 use Rattle.format.proofs.Runs.{Run, stop, more}
-use Rattle.format.proofs.Stated.{basisLine, variableLine, leftLine, rightLine, stepLine}
+use Rattle.format.specs.Code.Reached.{basisLine, variableLine, leftLine, rightLine, stepLine}
 
 abbrev andBases : File → List (List ℕ) → File
 andBases f bs = record { types = f .types; bases = f .bases ++ bs; variables = f .variables; left = f .left; right = f .right; steps = f .steps }

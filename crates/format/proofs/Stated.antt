@@ -7,28 +7,9 @@ use native.Mathlib.Omega.{arith}
 use lib.ListN.{length, length-append}
 use Rattle.rules.specs.Steps.{Move}
 use Rattle.text.specs.Pieces.{Text}
-use Rattle.text.specs.Tokens.{tokens}
-use Rattle.format.specs.Files.{Basis, Var, LeftTerm, RightTerm, Step, Variable, File, keyText, variableText, stepText, header, isStep, allSteps}
+use Rattle.format.specs.Files.{Variable, File, header, isStep, allSteps}
+use Rattle.format.specs.Code.Reached.{basisLine, variableLine, leftLine, rightLine, stepLine, stepLines}
 use Rattle.format.specs.Reading.{andBasis, andVariable, andRight, andStep}
-
--- ---- the lines of it
-abbrev pub basisLine : List ℕ → Text
-basisLine b = keyText Basis ++ tokens b
-
-abbrev pub variableLine : Variable → Text
-variableLine v = keyText Var ++ variableText v
-
-abbrev pub leftLine : File → Text
-leftLine f = keyText LeftTerm ++ tokens (f .left)
-
-abbrev pub rightLine : File → Text
-rightLine f = keyText RightTerm ++ tokens (f .right)
-
-abbrev pub stepLine : Move → Text
-stepLine m = keyText Step ++ stepText m
-
-abbrev pub stepLines : File → List Text
-stepLines f = map stepLine (f .steps)
 
 -- ---- one more
 pub steps-more : (ms : List Move) (m : Move) → allSteps ms ≡ true → isStep m ≡ true → allSteps (ms ++ m ∷ []) ≡ true

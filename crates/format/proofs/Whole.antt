@@ -9,9 +9,9 @@ use lib.ListN.{length}
 use Rattle.text.specs.Bytes.{badLine}
 use Rattle.text.specs.Pieces.{Text, linesOf, ended}
 use Rattle.text.proofs.Cutting.{lines-ended, ended-lines}
-use Rattle.format.specs.Files.{File, lines, print, maxBytes, InOrder}
+use Rattle.format.specs.Files.{File, lines, print, maxBytes, InOrder, Written}
 use Rattle.format.specs.Reading.{fault, read, readFrom, nothing, readOf}
-use Rattle.format.specs.Statements.{Written, Reads}
+use Rattle.format.specs.Statements.{Reads}
 use Rattle.format.proofs.Runs.{run-read, read-run}
 use Rattle.format.proofs.Reached.{run-lines}
 use Rattle.format.proofs.Rows.{lines-run}

@@ -128,6 +128,12 @@ pub record InOrder (f : File) : Type 0 where
   pub few-steps : length (f .steps) ≤ maxSteps
   pub steps : allSteps (f .steps) ≡ true
 
+-- bytes of "document 01's form" (demand 2): "At most 65,536 bytes"
+pub record Written (bytes : Text) (f : File) : Type 0 where
+  pub printed : bytes ≡ print f
+  pub order : InOrder f
+  pub small : length bytes ≤ maxBytes
+
 -- ---- what it declares
 unfoldable pub contextOf : File → Context
 unfolding typeIn treeIn parse

@@ -1,4 +1,5 @@
--- What a file says as the reader keeps it, in the words that it is lent: declarations, two terms, steps.
+-- What a file says as the reader keeps it, in the words that it is lent, as functions for the code to equal: declarations, two terms, steps. What to believe is the file with its `contextOf`
+-- of `Files`: demand 2 has that the words declare that context and hold those steps (`declares`, `lends` of `file` Demands).
 use mathlib.Core.List.{List, [], _∷_, _++_}
 use Prim.Native.Nat.{ℕ, _+_, _-_}
 use lib.ListN.{length, replicate}

@@ -3,3 +3,4 @@ pub mod Files
 pub mod Reading
 pub mod Statements
 pub mod Kept
+pub mod Code

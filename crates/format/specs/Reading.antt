@@ -1,4 +1,5 @@
--- How a file is read: a walk over its lines, up to the first fault. Document 01: "Codes 2, 3 come first, then the file by lines (in a line 4, 6, 5, then 7, 8 or 9)".
+-- How a file is read, as a function for the code to equal: a walk over its lines, up to the first fault. Of a file that is read the relation to believe is `Written` of `Statements`, and
+-- `Reads` there says that the two agree; of a fault it is this order. Document 01: "Codes 2, 3 come first, then the file by lines (in a line 4, 6, 5, then 7, 8 or 9)".
 use mathlib.Core.Bool.{Bool, false, cond, _||_}
 use mathlib.Core.List.{List, [], _∷_, _++_}
 use mathlib.Core.Option.{Option, some, none}
@@ -190,7 +191,7 @@ readFrom n stage f (l ∷ ls) = onLine (lineOf stage f l) (λ c. fault c n) λ g
 abbrev pub nothing : File
 nothing = record { types = 0; bases = []; variables = []; left = []; right = []; steps = [] }
 
--- "2 over 65,536 bytes; at 0. 3 a byte other than LF and 32 to 126, or no LF as last byte"
+-- 01: "2 over 65,536 bytes; at 0", "3 a byte other than LF and 32 to 126, or no LF as last byte"; "Codes 2, 3 come first, then the file by lines"
 unfoldable pub readOf : Text → Reading
 unfolding readFrom badLine pieces
 readOf bytes =

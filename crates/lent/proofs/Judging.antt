@@ -23,7 +23,7 @@ use Rattle.declarations.proofs.Entries.{well-formed}
 use Rattle.typing.specs.declared.terms.TermType.{TermType}
 use Rattle.typing.specs.declared.terms.Typing.{Typing}
 use Rattle.typing.specs.Answers.{refuse, typing, answerOf, typingOf, sizesOf, HeldTerm, TypedTerm}
-use Rattle.typing.specs.Statements as Said
+use Rattle.typing.specs.Answers as Said
 use Rattle.typing.proofs.Theorems.{complete-entry, decided}
 use Rattle.rules.specs.Steps.{Sides}
 use Rattle.lent.specs.declared.faults.Fault.{Fault}

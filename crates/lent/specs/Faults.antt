@@ -1,4 +1,5 @@
--- What is wrong with what is lent, before the first step: document 01, "What comes out, by whose doing", codes 1 to 12.
+-- What is wrong with what is lent, before the first step, as a function for the code to equal: the relation to believe is `Judged` of `Refusals`, and `Judges` of `Statements` says that the
+-- fault is so. Document 01, "What comes out, by whose doing", codes 1 to 12.
 use mathlib.Core.Bool.{Bool, cond, _&&_, _||_}
 use mathlib.Core.List.{List}
 use Prim.Native.Nat.{ℕ}

@@ -1,4 +1,4 @@
--- The same without functions: what is refused before any step, and what it takes for a run to begin.
+-- What is refused before any step, and what it takes for a run to begin: the relation that `faultIn` of `Faults` answers.
 use mathlib.Core.Path.{_≡_}
 use mathlib.Core.Logic.{_≢_}
 use mathlib.Core.Bool.{true, false}

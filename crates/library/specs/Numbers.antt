@@ -44,12 +44,13 @@ typingNumbers t =
 abbrev pub ofSizes : List ℕ → List ℕ → List ℕ → Bool
 ofSizes answer rows columns = ofSize 9 answer && (ofSize 63 rows && ofSize 63 columns)
 
--- what putting a name answers
+-- What putting a name answers, by 01's numbers: 1 is the calling program's doing, "6 one basis, var or step line too many", "7 a declaration is not exactly the indices wanted,
+-- or breaks a limit or a name"
 abbrev pub putNumber : Put → ℕ
 putNumber Done = 0
 putNumber WrongSize = 1
-putNumber Full = 2
-putNumber Bad = 3
+putNumber Full = 6
+putNumber Bad = 7
 
 -- a step by the numbers that are handed over
 abbrev pub stepOf : ℕ → ℕ → ℕ → ℕ → L.Step

@@ -194,12 +194,12 @@ fn put_number(put: Put) -> u64
     match put {
         Put::Done => 0,
         Put::WrongSize => 1,
-        Put::Full => 2,
-        Put::Bad => 3,
+        Put::Full => 6,
+        Put::Bad => 7,
     }
 }
 
-// Declarations of so many types, and no name of a basis or a variable. Returns 0 where that was done, 1 for a slice of another size than 6,179 words, 3 for more than 32 types.
+// Declarations of so many types, and no name of a basis or a variable. Returns 0 where that was done, 1 for a slice of another size than 6,179 words, 7 for more than 32 types.
 #[no_mangle]
 pub extern "C" fn fejogbu_start_declarations(ds: &mut [u16], types: usize) -> u64
     ensures returned { λ r. ⌜ r ≡ putNumber (P.startAnswer (now (ds .entry)) types) ⌝ }
@@ -208,7 +208,7 @@ pub extern "C" fn fejogbu_start_declarations(ds: &mut [u16], types: usize) -> u6
     put_number(start(ds, types))
 }
 
-// One basis name more, of an index. Returns 0 where it was put, 1 for a slice of another size, 2 where 32 are declared, 3 for words that are not exactly one index.
+// One basis name more, of an index. Returns 0 where it was put, 1 for a slice of another size, 6 where 32 are declared, 7 for words that are not exactly one index.
 #[no_mangle]
 pub extern "C" fn fejogbu_put_basis(ds: &mut [u16], index: &[u16]) -> u64
     ensures returned { λ r. ⌜ r ≡ putNumber (P.answer (P.room (now (ds .entry)) 1) (isIndex (getD (now (ds .entry)) 0 0) (now (index .entry)))) ⌝ }

@@ -19,7 +19,8 @@ use Rattle.format.specs.Reading.{Line, wrong, good, nothing, fits, full, stageA
 use Rattle.format.specs.Reading.{variableIn, moveIn, andLeft, andRight, andStep}
 use Rattle.format.specs.Kept.{declarationsOf, padded, stepsOf}
 use Rattle.format.proofs.Lines.{key-taken}
-use Rattle.format.proofs.Reached.{Reached, start, bases, variables, left-side, steps, done, goes-on}
+use Rattle.format.specs.Code.Reached.{Reached, start, bases, variables, left-side, steps, done}
+use Rattle.format.proofs.Reached.{goes-on}
 use Rattle.format.proofs.Values as Vals
 use Rattle.format.proofs.Values.{Value, taken-value}
 use Rattle.reader.specs.declared.faults.Fault.{Fault}

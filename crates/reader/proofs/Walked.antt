@@ -20,7 +20,7 @@ use Rattle.format.specs.Reading.{Line, wrong, good, lineOf, Reading, onLine, ke
 use Rattle.format.specs.Reading as R
 use Rattle.format.specs.Kept.{stepsSize, putSteps, stepsOf}
 use Rattle.format.proofs.Codes.{Marked, marked, line}
-use Rattle.format.proofs.Reached.{start}
+use Rattle.format.specs.Code.Reached.{start}
 use Rattle.lent.specs.Lent.{maxSteps}
 use Rattle.reader.specs.declared.files.Read.{Read}
 use Rattle.reader.specs.declared.walking.State.{State}

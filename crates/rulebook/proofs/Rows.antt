@@ -16,7 +16,7 @@ use Rattle.term.specs.Heads.{word}
 use Rattle.rules.specs.Patterns.{Pattern, #_, first, second, _⟨⟩, _⟨_⟩, _⟨_∣_⟩}
 use Rattle.rules.specs.Table.{Kind, Rule, _⇒_▷_, Line, _∶_, table, find, ruleOf}
 use Rattle.rulebook.specs.declared.Row.{Row}
-use Rattle.rulebook.specs.Rows.{patternWords, ruleWords, wordsOf, startIn, rowFor, rowOf, lineOf, kindNumber, allWords}
+use Rattle.rulebook.specs.Code.Rows.{patternWords, ruleWords, wordsOf, startIn, rowFor, rowOf, lineOf, kindNumber, allWords}
 
 -- ---- no rule has a number from 171 on
 below : ℕ → List Line → Bool

@@ -1,2 +1,2 @@
--- The code's table of rules.
-pub mod Rows
+-- The code's table of rules. What to believe is `table` of `rules` Table.
+pub mod Code

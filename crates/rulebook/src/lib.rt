@@ -2,11 +2,13 @@
 mod equations;
 
 use crate::equations::WORDS;
+use words::copy_words;
 ghost use mathlib.Core.Path.{_≡_};
-ghost use lib.ListN.{getD};
-ghost use Rattle.rulebook.specs.Rows.{rowOf, lineOf, allWords};
+ghost use lib.ListN.{drop};
+ghost use Rattle.words.specs.Words.{overlaid};
+ghost use Rattle.rulebook.specs.Code.Rows.{rowOf, lineOf, allWords};
 
-// What a rule is: its family, and what the family asks (`rowFor` of specs/Rows has the list).
+// What a rule is: its family, and what the family asks (`rowFor` of specs/Code/Rows has the list).
 pub struct Row {
     pub family: u16,
     pub a: u16,
@@ -211,9 +213,12 @@ pub fn row_of(rule: usize) -> Row
     }
 }
 
-// A word of the equations, and 0 past them.
-pub fn word_at(k: usize) -> u16
-    ensures { λ r. ⌜ r ≡ getD allWords k 0 ⌝ }
+// Lays the words of the equations from `from` on over the front of `out`, as many as both have: a side's words are copied once, and read from there.
+pub fn copy_from(from: usize, out: &mut [u16])
+    ensures { λ _. ⌜ now (out .exit) ≡ overlaid (now (out .entry)) (drop from allWords) ⌝ }
 {
-    if k < 801 { WORDS[k] } else { 0 }
+    if from < 801 {
+        let all = WORDS;
+        copy_words(out, &all[from..]);
+    }
 }

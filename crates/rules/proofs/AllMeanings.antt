@@ -26,7 +26,7 @@ module _ {R : Type 0} {𝓐 : Arithmetic R} (𝓡 : StarSemiring 𝓐) {Γ : Con
   RuleMeans r = (i j : ℕ) (p q : Tree) (S : Sort) → Instance Γ r i j p q → Γ ⊢ p ∶ S → value Γ 𝓡 χ p ≈ value Γ 𝓡 χ q
 
   equation : {k : Kind} {l r : Pattern} → Law Γ (λ p q S. Γ ⊢ p ∶ S → value Γ 𝓡 χ p ≈ value Γ 𝓡 χ q) (some (k ⇒ l ▷ r)) → RuleMeans (k ⇒ l ▷ r)
-  equation {k} {l} {r} law i j p q S (equals θ w) d = given Γ (λ p q S. Γ ⊢ p ∶ S → value Γ 𝓡 χ p ≈ value Γ 𝓡 χ q) k l r law θ S w d
+  equation {k} {l} {r} law i j p q S (equals θ a b w) d = given Γ (λ p q S. Γ ⊢ p ∶ S → value Γ 𝓡 χ p ≈ value Γ 𝓡 χ q) k l r law θ p q S a b w d
 
   spreading-first : {l s r : Label} → First 𝓡 W F l s r → RuleMeans (spreading l (child 0) s r)
   unfolding _⧺_ count

@@ -20,7 +20,7 @@ module _ {Γ : Context} (W : WellFormed Γ) where
   RuleKeeps r = (i j : ℕ) (p q : Tree) (S : Sort) → Instance Γ r i j p q → Γ ⊢ p ∶ S → Γ ⊢ q ∶ S
 
   equation : {k : Kind} {l r : Pattern} → Law Γ (λ p q S. Γ ⊢ p ∶ S → Γ ⊢ q ∶ S) (some (k ⇒ l ▷ r)) → RuleKeeps (k ⇒ l ▷ r)
-  equation {k} {l} {r} law i j p q S (equals θ w) d = given Γ (λ p q S. Γ ⊢ p ∶ S → Γ ⊢ q ∶ S) k l r law θ S w d
+  equation {k} {l} {r} law i j p q S (equals θ a b w) d = given Γ (λ p q S. Γ ⊢ p ∶ S → Γ ⊢ q ∶ S) k l r law θ p q S a b w d
 
   -- ---- what a spreading rule's result is a chain of
   abbrev Results : Label → Label → Type 0

@@ -14,15 +14,17 @@ use Rattle.term.specs.Heads.{Label, word, heads, reading, scalar-zero, scalar-s
 use Rattle.term.specs.Trees.{Tree, Forest, node, none, _▹_, _⧺_, count, words, Formed}
 use Rattle.term.proofs.Readings.{read-at}
 use Rattle.term.proofs.Parsing.{⧺-assoc, count-⧺, Formed*-⧺}
-use Rattle.types.specs.Sorts.{Context}
-use Rattle.rules.specs.Patterns.{Pattern, sortOf, fill}
-use Rattle.rules.specs.Table.{Kind, any, a-ket, a-bra, an-operator, wanted, Which, child, child-i, Summand, plain, scaled, Rule, _⇒_▷_, spreading, removing, absorbing, merging, collecting, swapping}
-use Rattle.rules.specs.Instances.{Chain, scalar-sums, scalar-products, sums, Picks, spread, summand, factor, Instance, equals, spreads, removes, absorbs, merges, collects, swaps}
-use Rattle.rules.specs.Rewrite.{isHead, match, holes, filled, Opened, open-at, spreadAt, removeAt, absorbAt, mergeAt, swapAt, Multiple, no-multiple, multiple, multipleOf, collected, collectBefore, collectAt, isChain, place, usable, rewrite}
-use Rattle.rules.proofs.Known.{nameless, is-head, head-is}
+use Rattle.types.specs.Sorts.{Sort, index, basis, scalar, ket, bra, operator, Context}
+use Rattle.types.specs.Rules.{_⊢_∶_, WellFormed}
+use Rattle.rules.specs.Patterns.{Pattern, #_, first, second, _⟨⟩, _⟨_⟩, _⟨_∣_⟩}
+use Rattle.rules.specs.Table.{Kind, any, a-ket, a-bra, an-operator, Which, child, child-i, Summand, plain, scaled, Rule, _⇒_▷_, spreading, removing, absorbing, merging, collecting, swapping}
+use Rattle.rules.specs.Instances.{Filled, hole, first-of, second-of, over-none, over-one, over-two, OfKind, Chain, scalar-sums, scalar-products, sums, Picks, spread, summand, factor, Instance, equals, spreads, removes, absorbs, merges, collects, swaps}
+use Rattle.rules.specs.Rewrite.{nameless, isHead, sortOf, wanted, fill, match, holes, filled, Opened, open-at, spreadAt, removeAt, absorbAt, mergeAt, swapAt, Multiple, no-multiple, multiple, multipleOf, collected, collectBefore, collectAt, isChain, place, usable, rewrite}
+use Rattle.rules.proofs.Known.{is-head, head-is}
 use Rattle.rules.proofs.Good.{met, inOrder, below, asked, good, Good, both, all-three}
+use Rattle.rules.proofs.Lines.{not-so, sort-is, fill-is, kind-is}
 use Rattle.rules.proofs.Opening.{At, too-far, there, at, open-⧺}
-use Rattle.rules.proofs.Matching.{Agrees, fill-agrees, meets, no-answer, cond-some, same-part, none-formed, matched}
+use Rattle.rules.proofs.Matching.{Agrees, fill-agrees, meets, no-answer, cond-some, same-part, none-formed, AllTyped, matched}
 
 -- ---- where the sum stands
 picks-usable : (w : Which) (i n : ℕ) → Picks w i n → usable w i ≡ true
@@ -81,7 +83,7 @@ collects-found u v before between after a b x =
 
 pub complete : {Γ : Context} {r : Rule} {i j : ℕ} {p q : Tree} → Good r → Instance Γ r i j p q → rewrite Γ r i j p ≡ some q
 unfolding rewrite spreadAt removeAt absorbAt mergeAt swapAt
-complete {Γ} g (equals {k} {l} {r} θ h) = equals-found Γ k l r θ g h
+complete {Γ} g (equals {k} {l} {r} θ a b w) = rw (fill-is Γ a, fill-is Γ b) (equals-found Γ k l r θ g (kind-is Γ k (θ 0) w))
 complete g (spreads {l} {s} {r} {w} {i} b f a h) = rw (picks-usable w i (count b) h, is-head l _, picks-place w i (count b) h, open-⧺, is-head s _)
 complete g (removes {l} {c} b f a h) = rw (is-head l _, open-⧺, is-head c _, lt-ltb 0 _ h)
 complete g (absorbs b a) = rw (is-head scalar-product _, open-⧺, is-head scalar-zero _)
@@ -103,14 +105,59 @@ unfolding filled
 filled-some Γ k r refused e = no-answer e
 filled-some Γ k r (some c) e = let b = cond-some (wanted k (sortOf Γ (holes c 0))) (some (fill Γ (holes c) r)) e in (c, refl, b .0, cc (b .1))
 
-equals-sound : {Γ : Context} {i j : ℕ} {t q : Tree} (k : Kind) (l r : Pattern) → Good (k ⇒ l ▷ r) → Formed t → i ≡ 0 → j ≡ 0
+-- a sort that passes the test is of the kind
+kind-of-sort : {Γ : Context} {t : Tree} (k : Kind) (S : Sort) → Γ ⊢ t ∶ S → wanted k S ≡ true → OfKind Γ k t
+kind-of-sort any S d w = tt
+kind-of-sort a-ket (index σ) d w = absurd (not-so w)
+kind-of-sort a-ket (basis σ) d w = absurd (not-so w)
+kind-of-sort a-ket scalar d w = absurd (not-so w)
+kind-of-sort a-ket (ket σ) d w = (σ, d)
+kind-of-sort a-ket (bra σ) d w = absurd (not-so w)
+kind-of-sort a-ket (operator σ τ) d w = absurd (not-so w)
+kind-of-sort a-bra (index σ) d w = absurd (not-so w)
+kind-of-sort a-bra (basis σ) d w = absurd (not-so w)
+kind-of-sort a-bra scalar d w = absurd (not-so w)
+kind-of-sort a-bra (ket σ) d w = absurd (not-so w)
+kind-of-sort a-bra (bra σ) d w = (σ, d)
+kind-of-sort a-bra (operator σ τ) d w = absurd (not-so w)
+kind-of-sort an-operator (index σ) d w = absurd (not-so w)
+kind-of-sort an-operator (basis σ) d w = absurd (not-so w)
+kind-of-sort an-operator scalar d w = absurd (not-so w)
+kind-of-sort an-operator (ket σ) d w = absurd (not-so w)
+kind-of-sort an-operator (bra σ) d w = absurd (not-so w)
+kind-of-sort an-operator (operator σ τ) d w = (σ, τ, d)
+
+-- the holes are typed, so the right side is filled as the rule asks, and hole 0 is of the kind that it wants
+module _ {Γ : Context} (c : List Tree) (all : AllTyped Γ c) where
+  hole-typed : (k : ℕ) → ltb k (length c) ≡ true → Γ ⊢ holes c k ∶ sortOf Γ (holes c k)
+  hole-typed k b = let d = all k (ltb-true k (length c) b) in rw (sort-is Γ (d .1)) (d .1)
+
+  right-filled : (p : Pattern) → below p (length c) ≡ true → Filled Γ (holes c) p (fill Γ (holes c) p)
+  unfolding below
+  right-filled (# k) b = hole
+  right-filled (first k) b = first-of (hole-typed k b)
+  right-filled (second k) b = second-of (hole-typed k b)
+  right-filled (h ⟨⟩) b = over-none
+  right-filled (h ⟨ p ⟩) b = over-one (right-filled p b)
+  right-filled (h ⟨ p ∣ q ⟩) b = let e = both (below p (length c)) (below q (length c)) b in over-two (right-filled p (e .0)) (right-filled q (e .1))
+
+  of-kind : (k : Kind) → asked k (length c) ≡ true → wanted k (sortOf Γ (holes c 0)) ≡ true → OfKind Γ k (holes c 0)
+  unfolding asked
+  of-kind any b w = tt
+  of-kind a-ket b w = kind-of-sort a-ket _ (hole-typed 0 b) w
+  of-kind a-bra b w = kind-of-sort a-bra _ (hole-typed 0 b) w
+  of-kind an-operator b w = kind-of-sort an-operator _ (hole-typed 0 b) w
+
+equals-sound : {Γ : Context} → WellFormed Γ → {i j : ℕ} {t q : Tree} {S : Sort} (k : Kind) (l r : Pattern) → Good (k ⇒ l ▷ r) → Formed t → Γ ⊢ t ∶ S → i ≡ 0 → j ≡ 0
     → filled Γ k r (match l t []) ≡ some q → Instance Γ (k ⇒ l ▷ r) i j t q
 unfolding good
-equals-sound {Γ} {t} k l r g h a b e =
+equals-sound {Γ} W {t} {S} k l r g h d a b e =
     let o = all-three (inOrder l 0) (below r (met l 0)) (asked k (met l 0)) g in
     let s = filled-some Γ k r (match l t []) e in
     let m = matched Γ l t [] (s .0) (o .0) none-formed h (s .1) in
-    instance-at a b (sym (m .fills (holes (s .0)) (λ k h. refl))) (s .3) (equals (holes (s .0)) (s .2))
+    let all = m .typed W S d (λ k s. absurd (omega (arith, s))) in
+    instance-at a b refl (s .3)
+    (equals (holes (s .0)) (m .fills (holes (s .0)) (λ k h. refl)) (right-filled (s .0) all r (rw (m .many) (o .1 .0))) (of-kind (s .0) all k (rw (m .many) (o .1 .1)) (s .2)))
 
 -- a child of a formed node is formed
 child-formed : {f : Forest} (m : Label) (b : Forest) (t : Tree) (a : Forest) → Formed (node m f) → f ≡ b ⧺ t ▹ a → Formed t
@@ -238,34 +285,34 @@ unfolding collectAt
 collects-sound h z (too-far l) e = no-answer e
 collects-sound {i} h z (there b t a k n) e = before-sound t a h z k n (at b i) e
 
-pub sound : {Γ : Context} {i j : ℕ} {q : Tree} (r : Rule) (p : Tree) → Good r → Formed p → rewrite Γ r i j p ≡ some q → Instance Γ r i j p q
+pub sound : {Γ : Context} → WellFormed Γ → {i j : ℕ} {q : Tree} {S : Sort} (r : Rule) (p : Tree) → Good r → Formed p → Γ ⊢ p ∶ S → rewrite Γ r i j p ≡ some q → Instance Γ r i j p q
 unfolding rewrite good
-sound {i} {j} (k ⇒ l ▷ r) p g h e =
+sound W {i} {j} (k ⇒ l ▷ r) p g h t e =
     let c = cond-some (eqb i 0 && eqb j 0) _ e in
     let b = both (eqb i 0) (eqb j 0) (c .0) in
-    equals-sound k l r g h (eqb-true i 0 (b .0)) (eqb-true j 0 (b .1)) (c .1)
-sound {i} {j} (spreading l w s r) (node m f) g h e =
+    equals-sound W k l r g h t (eqb-true i 0 (b .0)) (eqb-true j 0 (b .1)) (c .1)
+sound W {i} {j} (spreading l w s r) (node m f) g h t e =
     let c = cond-some (eqb j 0 && (usable w i && isHead l m (count f))) _ e in
     let b = all-three (eqb j 0) (usable w i) (isHead l m (count f)) (c .0) in
     let n = both (nameless l) (nameless s) g in
     spreads-sound (n .1) h (eqb-true j 0 (b .0)) (b .1 .0) (head-is l m f (n .0) h (b .1 .1)) (at f (place w i)) (c .1)
-sound {i} {j} (removing l d) (node m f) g h e =
+sound W {i} {j} (removing l d) (node m f) g h t e =
     let c = cond-some (eqb j 0 && isHead l m (count f)) _ e in
     let b = both (eqb j 0) (isHead l m (count f)) (c .0) in
     let n = both (nameless l) (nameless d) g in
     removes-sound (n .1) h (eqb-true j 0 (b .0)) (head-is l m f (n .0) h (b .1)) (at f i) (c .1)
-sound {i} {j} absorbing (node m f) g h e =
+sound W {i} {j} absorbing (node m f) g h t e =
     let c = cond-some (eqb j 0 && isHead scalar-product m (count f)) _ e in
     let b = both (eqb j 0) (isHead scalar-product m (count f)) (c .0) in
     absorbs-sound h (eqb-true j 0 (b .0)) (head-is scalar-product m f refl h (b .1)) (at f i) (c .1)
-sound {i} {j} merging (node m f) g h e =
+sound W {i} {j} merging (node m f) g h t e =
     let c = cond-some (eqb j 0 && isChain m (count f)) _ e in
     let b = both (eqb j 0) (isChain m (count f)) (c .0) in
     merges-sound h (eqb-true j 0 (b .0)) (chain-of m f h (b .1)) (at f i) (c .1)
-sound {i} {j} (collecting u v) (node m f) g h e =
+sound W {i} {j} (collecting u v) (node m f) g h t e =
     let c = cond-some (isHead add m (count f)) _ e in
     collects-sound h (head-is add m f refl h (c .0)) (at f j) (c .1)
-sound {i} {j} swapping (node m f) g h e =
+sound W {i} {j} swapping (node m f) g h t e =
     let c = cond-some (eqb j 0 && isChain m (count f)) _ e in
     let b = both (eqb j 0) (isChain m (count f)) (c .0) in
     swaps-sound (eqb-true j 0 (b .0)) (chain-of m f h (b .1)) (at f i) (c .1)

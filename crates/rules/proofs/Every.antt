@@ -6,7 +6,8 @@ use mathlib.Core.Option.{some}
 use Prim.Native.Nat.{ℕ}
 use native.Mathlib.Omega.{arith}
 use lib.Dec.{eqb}
-use Rattle.rules.specs.Table.{Rule, Line, _∶_, table, find, ruleOf}
+use Rattle.rules.specs.Patterns.{Pattern}
+use Rattle.rules.specs.Table.{Kind, Rule, _⇒_▷_, spreading, removing, absorbing, merging, collecting, swapping, Line, _∶_, table, find, ruleOf}
 
 -- one proof for each line, in the table's order
 abbrev pub Every : (Rule → Type 0) → List Line → Type 0
@@ -45,3 +46,17 @@ every-passes f ((n ∶ r) ∷ ls) e = split (f r) refl e (every-passes f ls)
 
 pub rule-passes : (f : Rule → Bool) → all-lines f table ≡ true → (n : ℕ) (r : Rule) → ruleOf n ≡ some r → f r ≡ true
 rule-passes f e = every-rule (λ r. f r ≡ true) (every-passes f table e)
+
+-- a test of both sides of every equation
+unfoldable pub on-equations : (Pattern → Pattern → Bool) → Rule → Bool
+on-equations f (k ⇒ l ▷ r) = f l r
+on-equations f (spreading l w s r) = true
+on-equations f (removing l c) = true
+on-equations f absorbing = true
+on-equations f merging = true
+on-equations f (collecting u v) = true
+on-equations f swapping = true
+
+pub equation-passes : (f : Pattern → Pattern → Bool) → all-lines (on-equations f) table ≡ true → (n : ℕ) (k : Kind) (l r : Pattern) → ruleOf n ≡ some (k ⇒ l ▷ r) → f l r ≡ true
+unfolding on-equations
+equation-passes f e n k l r rule = rule-passes (on-equations f) e n (k ⇒ l ▷ r) rule

@@ -6,8 +6,8 @@ use Prim.Native.Nat.{ℕ, suc}
 use lib.Dec.{eqb, leb, ltb}
 use Rattle.rules.specs.Patterns.{Pattern, #_, first, second, _⟨⟩, _⟨_⟩, _⟨_∣_⟩}
 use Rattle.rules.specs.Table.{Kind, any, a-ket, a-bra, an-operator, Rule, _⇒_▷_, spreading, removing, absorbing, merging, collecting, swapping, ruleOf}
+use Rattle.rules.specs.Rewrite.{nameless}
 use Rattle.rules.proofs.Every.{rule-passes}
-use Rattle.rules.proofs.Known.{nameless}
 
 -- ---- the holes of a pattern
 -- n holes were met before: how many were met behind it

@@ -1,6 +1,6 @@
 -- A head without a name is known by its word: no other label of a formed node has the same.
 use mathlib.Core.Path.{_≡_, refl}
-use mathlib.Core.Bool.{Bool, true, false}
+use mathlib.Core.Bool.{true}
 use Prim.Native.Nat.{ℕ, zero, suc, _+_, _*_}
 use native.Mathlib.Omega.{arith}
 use borrow.Author.Tests.{eqb-true, eq-eqb}
@@ -9,35 +9,7 @@ use lib.ListN.{getD}
 use Rattle.term.specs.Heads.{Label, type-name, basis-name, variable, index-product, pair, scalar-zero, scalar-one, scalar-sum, scalar-product, conjugate, delta, dot, zero-ket, zero-bra, zero-operator, identity, basis-ket, basis-bra, adjoint, scale, add, tensor, mulk, mulb, outer, mulo, unknown, heads, word, unread, labelled, reading, read}
 use Rattle.term.proofs.Readings.{read-at, read-few}
 use Rattle.term.specs.Trees.{Forest, node, count, Formed}
-use Rattle.rules.specs.Rewrite.{isHead}
-
-abbrev pub nameless : Label → Bool
-nameless (type-name a) = false
-nameless (basis-name a) = false
-nameless (variable a) = false
-nameless index-product = true
-nameless pair = true
-nameless scalar-zero = true
-nameless scalar-one = true
-nameless scalar-sum = true
-nameless scalar-product = true
-nameless conjugate = true
-nameless delta = true
-nameless dot = true
-nameless zero-ket = true
-nameless zero-bra = true
-nameless zero-operator = true
-nameless identity = true
-nameless basis-ket = true
-nameless basis-bra = true
-nameless adjoint = true
-nameless scale = true
-nameless add = true
-nameless tensor = true
-nameless mulk = true
-nameless mulb = true
-nameless outer = true
-nameless mulo = true
+use Rattle.rules.specs.Rewrite.{nameless, isHead}
 
 module _ (m : Label) (n : ℕ) (e : read (word m n) ≡ labelled m n) where
   -- the word of a head of fixed arity reads as that head

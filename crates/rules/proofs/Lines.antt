@@ -1,5 +1,5 @@
 -- What is to be shown of each pattern rule, by its number.
-use mathlib.Core.Path.{_≡_}
+use mathlib.Core.Path.{_≡_, refl}
 use mathlib.Core.Bool.{true, false}
 use mathlib.Core.Option.{Option, some, none}
 use Prim.Native.Nat.{ℕ}
@@ -12,8 +12,10 @@ use Rattle.types.specs.Rules.{_⊢_∶_}
 use Rattle.types.proofs.Complete.{complete}
 use Rattle.meaning.specs.Choices.{Choice, a-term, an-index, a-basis}
 use Rattle.meaning.specs.Meaning.{first, second, plus, total, times, product, meaningOf, meaning, stands, mean}
-use Rattle.rules.specs.Patterns.{Pattern, sortOf, fill}
-use Rattle.rules.specs.Table.{Kind, any, a-ket, a-bra, an-operator, wanted, Rule, _⇒_▷_, spreading, removing, absorbing, merging, collecting, swapping, table, find}
+use Rattle.rules.specs.Patterns.{Pattern}
+use Rattle.rules.specs.Instances.{Filled, hole, first-of, second-of, over-none, over-one, over-two, OfKind}
+use Rattle.rules.specs.Rewrite.{sortOf, wanted, fill}
+use Rattle.rules.specs.Table.{Kind, any, a-ket, a-bra, an-operator, Rule, _⇒_▷_, spreading, removing, absorbing, merging, collecting, swapping, table, find}
 
 -- where the part in hole 0 must be of a kind
 abbrev pub Given : Kind → Sort → Type 0 → Type 0
@@ -31,6 +33,21 @@ module _ (Γ : Context) where
   pub sort-is : {t : Tree} {S : Sort} → Γ ⊢ t ∶ S → sortOf Γ t ≡ S
   sort-is d = rw (complete Γ d 0)
 
+  -- and so on what stands in the holes of a side, and on its kind
+  pub fill-is : {θ : ℕ → Tree} {p : Pattern} {t : Tree} → Filled Γ θ p t → t ≡ fill Γ θ p
+  fill-is hole = refl
+  fill-is (first-of d) = rw (sort-is d)
+  fill-is (second-of d) = rw (sort-is d)
+  fill-is over-none = refl
+  fill-is (over-one a) = rw (fill-is a)
+  fill-is (over-two a b) = rw (fill-is a, fill-is b)
+
+  pub kind-is : (k : Kind) (t : Tree) → OfKind Γ k t → wanted k (sortOf Γ t) ≡ true
+  kind-is any t w = refl
+  kind-is a-ket t w = rw (sort-is (w .1))
+  kind-is a-bra t w = rw (sort-is (w .1))
+  kind-is an-operator t w = rw (sort-is (w .2))
+
   -- what is to hold of the two sides of a pattern rule, whatever its holes hold
   abbrev pub Law : (Tree → Tree → Sort → Type 0) → Option Rule → Type 0
   Law P none = Unit {0}
@@ -42,13 +59,16 @@ module _ (Γ : Context) where
   Law P (some (collecting a b)) = Unit {0}
   Law P (some swapping) = Unit {0}
 
-  -- the law of a rule at an instance, where the kind is the wanted one
-  pub given : (P : Tree → Tree → Sort → Type 0) (k : Kind) (l r : Pattern) → Law P (some (k ⇒ l ▷ r)) → (θ : ℕ → Tree) (S : Sort) → wanted k (sortOf Γ (θ 0)) ≡ true
-      → P (fill Γ θ l) (fill Γ θ r) S
-  given P any l r law θ S w = law θ S
-  given P a-ket l r law θ S w = law θ S w
-  given P a-bra l r law θ S w = law θ S w
-  given P an-operator l r law θ S w = law θ S w
+  -- the law of a rule at an instance
+  pub given : (P : Tree → Tree → Sort → Type 0) (k : Kind) (l r : Pattern) → Law P (some (k ⇒ l ▷ r)) → (θ : ℕ → Tree) (p q : Tree) (S : Sort)
+      → Filled Γ θ l p → Filled Γ θ r q → OfKind Γ k (θ 0) → P p q S
+  given P k l r law θ p q S a b w = rw (fill-is a, fill-is b) (by-kind k law w)
+    where
+      by-kind : (k : Kind) → Law P (some (k ⇒ l ▷ r)) → OfKind Γ k (θ 0) → P (fill Γ θ l) (fill Γ θ r) S
+      by-kind any law w = law θ S
+      by-kind a-ket law w = law θ S (kind-is a-ket (θ 0) w)
+      by-kind a-bra law w = law θ S (kind-is a-bra (θ 0) w)
+      by-kind an-operator law w = law θ S (kind-is an-operator (θ 0) w)
 
   -- the right side has the sort of the left
   abbrev pub Keeps : ℕ → Type 0

@@ -11,13 +11,16 @@ use lib.ListN.{length, length-append}
 use Rattle.words.specs.Words.{sameWords}
 use Rattle.words.proofs.Runs.{same-words, same-words-eq}
 use Rattle.term.specs.Heads.{Label, word, heads, reading}
-use Rattle.term.specs.Trees.{Tree, node, none, _▹_, count, words, Formed}
+use Rattle.term.specs.Trees.{Tree, Forest, node, none, _▹_, count, words, Formed}
 use Rattle.term.proofs.Readings.{read-at}
-use Rattle.term.proofs.Parsing.{prefix-free}
-use Rattle.types.specs.Sorts.{Context}
-use Rattle.rules.specs.Patterns.{Pattern, #_, first, second, _⟨⟩, _⟨_⟩, _⟨_∣_⟩, fill}
-use Rattle.rules.specs.Rewrite.{isHead, andThen, hold, match, holes}
-use Rattle.rules.proofs.Known.{nameless, is-head, head-is}
+use Rattle.term.proofs.Theorems.{one-reading}
+use Rattle.types.specs.Sorts.{Sort, Context}
+use Rattle.types.specs.Rules.{_⊢_∶_, WellFormed}
+use Rattle.types.proofs.Sound.{Each, each-more, node-of}
+use Rattle.rules.specs.Patterns.{Pattern, #_, first, second, _⟨⟩, _⟨_⟩, _⟨_∣_⟩}
+use Rattle.rules.specs.Instances.{Filled, hole, over-none, over-one, over-two}
+use Rattle.rules.specs.Rewrite.{nameless, isHead, fill, andThen, hold, match, holes}
+use Rattle.rules.proofs.Known.{is-head, head-is}
 use Rattle.rules.proofs.Good.{met, inOrder, below, both, all-three}
 
 -- ---- one more hole
@@ -113,7 +116,7 @@ and-then (some c) f e = (c, refl, e)
 
 -- parts with the same words are the same
 pub same-part : (t u : Tree) → Formed t → Formed u → sameWords (words t) (words u) ≡ true → t ≡ u
-same-part t u h k e = prefix-free t u h k [] [] (ap (λ (ws : List ℕ). ws ++ []) (same-words-eq (words t) (words u) e))
+same-part t u h k e = one-reading t u h k (same-words-eq (words t) (words u) e)
 
 -- ---- what `match` answers fills the pattern: however the holes behind it are held
 abbrev pub AllFormed : List Tree → Type 0
@@ -129,12 +132,32 @@ formed-more [] t f h (suc k) = f k
 formed-more (u ∷ c) t f h zero = f 0
 formed-more (u ∷ c) t f h (suc k) = formed-more c t (λ j. f (suc j)) h k
 
+-- and the parts are typed where the whole is
+abbrev pub AllTyped : Context → List Tree → Type 0
+AllTyped Γ c = (k : ℕ) → k < length c → (S : Sort) × (Γ ⊢ holes c k ∶ S)
+
+typed-more : {Γ : Context} (c : List Tree) (t : Tree) (S : Sort) → AllTyped Γ c → Γ ⊢ t ∶ S → AllTyped Γ (c ++ t ∷ [])
+typed-more [] t S a d zero h = (S, d)
+typed-more [] t S a d (suc k) h = absurd (omega (arith, h))
+typed-more (u ∷ c) t S a d zero h = a 0 (omega arith)
+typed-more (u ∷ c) t S a d (suc k) h = typed-more c t S (λ j l. a (suc j) (omega (arith, l))) d k (omega (arith, h))
+
+first-typed : {Γ : Context} {t : Tree} {f : Forest} {ss : List Sort} → Each Γ (t ▹ f) ss → (S : Sort) × (Γ ⊢ t ∶ S)
+first-typed (each-more {S} d x) = (S, d)
+
+second-typed : {Γ : Context} {t u : Tree} {f : Forest} {ss : List Sort} → Each Γ (t ▹ u ▹ f) ss → (S : Sort) × (Γ ⊢ u ∶ S)
+second-typed (each-more d x) = first-typed x
+
 pub record Matched (Γ : Context) (l : Pattern) (t : Tree) (c d : List Tree) : Type 0 where
   pub many : length d ≡ met l (length c)
   pub longer : length c ≤ length d
   pub keeps : (k : ℕ) → k < length c → holes d k ≡ holes c k
   pub formed : AllFormed d
-  pub fills : (θ : ℕ → Tree) → Agrees θ d → fill Γ θ l ≡ t
+  pub fills : (θ : ℕ → Tree) → Agrees θ d → Filled Γ θ l t
+  pub typed : WellFormed Γ → (S : Sort) → Γ ⊢ t ∶ S → AllTyped Γ c → AllTyped Γ d
+
+hole-at : {Γ : Context} {θ : ℕ → Tree} {t : Tree} (k : ℕ) → θ k ≡ t → Filled Γ θ (# k) t
+hole-at k e = rw (← e) hole
 
 module _ (Γ : Context) where
   matched-new : (t : Tree) (c d : List Tree) → AllFormed c → Formed t → hold (length c) t c ≡ some d → Matched Γ (# length c) t c d
@@ -147,7 +170,8 @@ module _ (Γ : Context) where
         longer = omega (arith, one-more c t);
         keeps = holes-before c t;
         formed = formed-more c t f h;
-        fills = λ θ a. sym (a (length c) (omega (arith, one-more c t))) ∙ holes-last c t;
+        fills = λ θ a. hole-at (length c) (sym (a (length c) (omega (arith, one-more c t))) ∙ holes-last c t);
+        typed = λ W S p a. typed-more c t S a p;
       }
 
   matched-old : (k : ℕ) (t : Tree) (c d : List Tree) → k < length c → AllFormed c → Formed t → hold k t c ≡ some d → Matched Γ (# k) t c d
@@ -161,7 +185,8 @@ module _ (Γ : Context) where
         longer = omega arith;
         keeps = λ k h. refl;
         formed = f;
-        fills = λ θ a. sym (a k l) ∙ same-part (holes c k) t (f k) h (r .0);
+        fills = λ θ a. hole-at k (sym (a k l) ∙ same-part (holes c k) t (f k) h (r .0));
+        typed = λ W S p a. a;
       }
 
   matched-hole : (k : ℕ) (t : Tree) (c d : List Tree) → k ≤ length c → AllFormed c → Formed t → hold k t c ≡ some d → Matched Γ (# k) t c d
@@ -172,7 +197,7 @@ module _ (Γ : Context) where
 
   matched-none : (l m : Label) (c : List Tree) → l ≡ m → AllFormed c → Matched Γ (l ⟨⟩) (node m none) c c
   unfolding met
-  matched-none l m c z f = record { many = refl; longer = omega arith; keeps = λ k h. refl; formed = f; fills = λ θ a. rw z }
+  matched-none l m c z f = record { many = refl; longer = omega arith; keeps = λ k h. refl; formed = f; fills = λ θ a. rw z over-none; typed = λ W S p a. a }
 
   matched-one : (l m : Label) (p : Pattern) (t : Tree) (c d : List Tree) → l ≡ m → Matched Γ p t c d → Matched Γ (l ⟨ p ⟩) (node m (t ▹ none)) c d
   unfolding met
@@ -181,7 +206,8 @@ module _ (Γ : Context) where
     longer = x .longer;
     keeps = x .keeps;
     formed = x .formed;
-    fills = λ θ a. rw z (ap (λ (s : Tree). node m (s ▹ none)) (x .fills θ a));
+    fills = λ θ a. rw z (over-one (x .fills θ a));
+    typed = λ W S p. let e = first-typed (node-of W p .each) in x .typed W (e .0) (e .1);
   }
 
   -- the holes of the first child are still held behind the second
@@ -195,7 +221,10 @@ module _ (Γ : Context) where
     formed = y .formed;
     fills = λ θ a.
         let s = x .fills θ (λ k h. sym (y .keeps k h) ∙ a k (omega (arith, h, y .longer))) in
-        let r = y .fills θ a in cc;
+        rw z (over-two s (y .fills θ a));
+    typed = λ W S p a.
+        let e = first-typed (node-of W p .each) in
+        let g = second-typed (node-of W p .each) in y .typed W (g .0) (g .1) (x .typed W (e .0) (e .1) a);
   }
 
   pub matched : (l : Pattern) (t : Tree) (c d : List Tree) → inOrder l (length c) ≡ true → AllFormed c → Formed t → match l t c ≡ some d → Matched Γ l t c d

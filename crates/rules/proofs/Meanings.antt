@@ -20,7 +20,8 @@ use Rattle.meaning.specs.Choices.{Choice}
 use Rattle.meaning.specs.Meaning.{stands}
 use Rattle.meaning.specs.Sorted.{Fits, Proper}
 use Rattle.meaning.proofs.Shapes.{shape}
-use Rattle.rules.specs.Patterns.{firstIndex, secondIndex, sortOf}
+use Rattle.rules.specs.Patterns.{firstIndex, secondIndex}
+use Rattle.rules.specs.Rewrite.{sortOf}
 use Rattle.rules.proofs.Lines.{not-so, sort-is, value, Means}
 
 module _ {R : Type 0} {𝓐 : Arithmetic R} (𝓡 : StarSemiring 𝓐) {Γ : Context} {χ : Choice R} (W : WellFormed Γ) (F : Fits 𝓐 Γ χ) where

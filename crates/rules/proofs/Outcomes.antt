@@ -1,5 +1,6 @@
 -- A step's code and term: which of document 01's cases it is, and that each keeps sort and meaning.
 use mathlib.Core.Path.{_≡_, refl}
+use mathlib.Core.Logic.{_↔_}
 use mathlib.Core.Bool.{Bool, true, false, cond}
 use mathlib.Core.Option.{Option, some, none}
 use Prim.Native.Nat.{ℕ}
@@ -8,14 +9,17 @@ use native.Mathlib.Omega.{arith}
 use lib.ListN.{length}
 use Rattle.term.specs.Trees.{Tree, words, Formed, Subtree, outside, found, subtree, replace}
 use Rattle.term.proofs.Places.{place, subtree-formed}
-use Rattle.types.specs.Sorts.{Context}
+use Rattle.types.specs.Sorts.{Sort, Context}
+use Rattle.types.specs.Rules.{_⊢_∶_, WellFormed}
+use Rattle.types.proofs.Replace.{part-typed}
 use Rattle.rules.specs.Table.{Rule, ruleOf}
 use Rattle.rules.specs.Instances.{Instance}
 use Rattle.rules.specs.Rewrite.{rewrite}
 use Rattle.rules.specs.Steps.{Step, Stepped, within, limited, atPart, atPlace, byRule, stepOf}
-use Rattle.rules.specs.Statements.{Decides, Outcome, good, no-rule, no-place, no-instance, too-big}
+use Rattle.rules.specs.Outcomes.{Outcome, good, no-rule, no-place, no-instance, too-big}
+use Rattle.rules.specs.Statements.{Decides}
 
-module _ (D : Decides) (Γ : Context) (t : Tree) (s : Step) (formed : Formed t) where
+module _ (D : Decides) (Γ : Context) (W : WellFormed Γ) (S : Sort) (t : Tree) (s : Step) (formed : Formed t) (typed : Γ ⊢ t ∶ S) where
   abbrev Is : Stepped → Type 0
   Is o = Outcome Γ t s (o .code) (o .tree)
 
@@ -25,11 +29,16 @@ module _ (D : Decides) (Γ : Context) (t : Tree) (s : Step) (formed : Formed t) 
   by-limits {r} {p} {q} true w e f x = good _ (record { r = r; rule = e; part = p; there = f; new = q; is = x; result = refl; limits = w })
   by-limits false w e f x = too-big e f x w
 
+  decided : {r : Rule} {p : Tree} (q : Tree) → ruleOf (s .rule) ≡ some r → subtree t (s .place) ≡ found p
+      → (rewrite Γ r (s .i) (s .j) p ≡ some q) ↔ Instance Γ r (s .i) (s .j) p q
+  decided {r} {p} q e f =
+      let d = part-typed W t (s .place) p S typed f in
+      D Γ W (s .rule) r e (s .i) (s .j) p q (subtree-formed t (s .place) p formed f) (d .0) (d .1)
+
   by-part : {r : Rule} {p : Tree} (o : Option Tree) → rewrite Γ r (s .i) (s .j) p ≡ o → ruleOf (s .rule) ≡ some r → subtree t (s .place) ≡ found p → Is (atPart Γ t s o)
   unfolding atPart limited
-  by-part {r} {p} none g e f =
-      no-instance e f λ q x. absurd (let h = D Γ (s .rule) r e (s .i) (s .j) p q (subtree-formed t (s .place) p formed f) .1 x in let z : _≡_ {A = ℕ} 0 1 = cc in omega arith)
-  by-part {r} {p} (some q) g e f = by-limits (within (replace t (s .place) q)) refl e f (D Γ (s .rule) r e (s .i) (s .j) p q (subtree-formed t (s .place) p formed f) .0 g)
+  by-part none g e f = no-instance e f λ q x. absurd (let h = decided q e f .1 x in let z : _≡_ {A = ℕ} 0 1 = cc in omega arith)
+  by-part (some q) g e f = by-limits (within (replace t (s .place) q)) refl e f (decided q e f .0 g)
 
   by-place : {r : Rule} (o : Subtree) → subtree t (s .place) ≡ o → ruleOf (s .rule) ≡ some r → Is (atPlace Γ t s r o)
   unfolding atPlace

@@ -7,9 +7,9 @@ use Rattle.term.specs.Heads.{Label, type-name, basis-name, variable, index-prod
 use Rattle.term.specs.Trees.{Tree, Forest, node}
 use Rattle.types.specs.Sorts.{Sort, index, basis, scalar, ket, bra, operator, Context}
 use Rattle.types.specs.Rules.{_⊢_∶_, type-var, basis-var, term-var, base-prod, pair-base, IsType, WellFormed}
-use Rattle.rules.specs.Patterns.{Pattern, #_, first, second, _⟨⟩, _⟨_⟩, _⟨_∣_⟩, fill}
+use Rattle.rules.specs.Patterns.{Pattern, #_, first, second, _⟨⟩, _⟨_⟩, _⟨_∣_⟩}
 use Rattle.rules.specs.Table.{Rule, _⇒_▷_, spreading, removing, absorbing, merging, collecting, swapping, ruleOf}
-use Rattle.rules.specs.Instances.{Chain, scalar-sums, scalar-products, sums, Instance, equals, spreads, removes, absorbs, merges, collects, swaps}
+use Rattle.rules.specs.Instances.{Chain, scalar-sums, scalar-products, sums, Filled, hole, first-of, second-of, over-none, over-one, over-two, Instance, equals, spreads, removes, absorbs, merges, collects, swaps}
 use Rattle.rules.proofs.Every.{rule-passes}
 use Rattle.rules.proofs.Lines.{not-so}
 
@@ -81,16 +81,16 @@ chain-head scalar-products = refl
 chain-head sums = refl
 
 module _ {Γ : Context} (W : WellFormed Γ) {S : Sort} where
-  left-type : (θ : ℕ → Tree) (l : Pattern) → left-head l ≡ true → Γ ⊢ fill Γ θ l ∶ S → IsType S
-  left-type θ (# k) h d = absurd (not-so h)
-  left-type θ (first k) h d = absurd (not-so h)
-  left-type θ (second k) h d = absurd (not-so h)
-  left-type θ (l ⟨⟩) h d = type-of W S h d
-  left-type θ (l ⟨ p ⟩) h d = type-of W S h d
-  left-type θ (l ⟨ p ∣ q ⟩) h d = type-of W S h d
+  left-type : {θ : ℕ → Tree} {l : Pattern} {p : Tree} → left-head l ≡ true → Filled Γ θ l p → Γ ⊢ p ∶ S → IsType S
+  left-type h hole d = absurd (not-so h)
+  left-type h (first-of a) d = absurd (not-so h)
+  left-type h (second-of a) d = absurd (not-so h)
+  left-type h over-none d = type-of W S h d
+  left-type h (over-one a) d = type-of W S h d
+  left-type h (over-two a b) d = type-of W S h d
 
   instance-type : {r : Rule} {i j : ℕ} {p q : Tree} → Terms r → Instance Γ r i j p q → Γ ⊢ p ∶ S → IsType S
-  instance-type h (equals {l = l} θ w) d = left-type θ l h d
+  instance-type h (equals θ a b w) d = left-type h a d
   instance-type h (spreads b f a x) d = type-of W S h d
   instance-type h (removes b f a x) d = type-of W S h d
   instance-type h (absorbs b a) d = type-of W S refl d

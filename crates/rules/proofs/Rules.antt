@@ -13,7 +13,7 @@ use Rattle.rules.proofs.Good.{every-good}
 use Rattle.rules.proofs.Lines.{value}
 
 pub decides : Decides
-decides Γ n r e i j p q f = let g = every-good n r e in (sound r p g f, complete g)
+decides Γ W n r e i j p q f S d = let g = every-good n r e in (sound W r p g f d, complete g)
 
 pub at-most-one : AtMostOne
 at-most-one Γ n r e i j p q q′ x y = unique {r = r} (every-good n r e) x y

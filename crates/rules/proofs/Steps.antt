@@ -4,20 +4,20 @@ use mathlib.Core.List.{List, [], _∷_}
 use Prim.Native.Nat.{ℕ, _+_}
 use lib.Dec.{eqb}
 use Rattle.algebra.specs.Semirings.{Arithmetic, StarSemiring}
-use Rattle.algebra.proofs.Gaussian.{gaussian-laws}
 use Rattle.term.specs.declared.parts.Side.{Side}
 use Rattle.term.specs.declared.parts.Side.the-variants.{Left, Right}
 use Rattle.term.specs.Trees.{Tree}
 use Rattle.types.specs.Sorts.{Sort, Context}
-use Rattle.types.specs.Rules.{_⊢_∶_, WellFormed}
+use Rattle.types.specs.Rules.{_⊢_∶_, WellFormed, Typed}
 use Rattle.types.proofs.Replace.{part-typed, replace-typed}
 use Rattle.meaning.specs.Choices.{Choice}
-use Rattle.meaning.specs.Meaning.{stands, mean}
+use Rattle.meaning.specs.Meaning.{stands}
 use Rattle.meaning.specs.Sorted.{Fits, Same}
 use Rattle.meaning.proofs.Sameness.{same-refl, same-sym, same-trans}
-use Rattle.meaning.proofs.Theorems.{same-alike, alike-numbers, congruent}
+use Rattle.meaning.proofs.Theorems.{same-alike, congruent}
 use Rattle.rules.specs.Steps.{Step, stepOf, stepsOf, Move, Sides, chosen, put, Run, runOf}
-use Rattle.rules.specs.Statements.{Taken, Outcome, good, no-rule, no-place, no-instance, too-big, StepDecided, Typed, StepKeepsType, StepsKeepType, StepsKeepMeaning, RunKeepsMeaning, RunProves, GaussianSteps, GaussianRun}
+use Rattle.rules.specs.Outcomes.{Taken, Outcome, good, no-rule, no-place, no-instance, too-big}
+use Rattle.rules.specs.Statements.{StepDecided, StepKeepsType, StepsKeepType, StepsKeepMeaning, RunKeepsMeaning, RunProves}
 use Rattle.rules.proofs.AllTypes.{rule-keeps}
 use Rattle.rules.proofs.AllMeanings.{rule-means}
 use Rattle.rules.proofs.Rules.{decides}
@@ -60,10 +60,10 @@ module _ {R : Type 0} {𝓐 : Arithmetic R} (𝓡 : StarSemiring 𝓐) {Γ : Con
 
 -- ---- lists
 pub step-decided : StepDecided
-step-decided Γ t s formed = outcome decides Γ t s formed
+step-decided Γ W S t d s = outcome decides Γ W S t s (d .form .formed) (d .rules)
 
 pub step-keeps-type : StepKeepsType
-step-keeps-type Γ W S t d s = outcome-type W d (step-decided Γ t s (d .form .formed))
+step-keeps-type Γ W S t d s = outcome-type W d (step-decided Γ W S t d s)
 
 pub steps-keep-type : StepsKeepType
 unfolding stepsOf
@@ -73,7 +73,7 @@ steps-keep-type Γ W S t d (s ∷ ss) = steps-keep-type Γ W S _ (step-keeps-typ
 module _ {R : Type 0} {𝓐 : Arithmetic R} (𝓡 : StarSemiring 𝓐) where
   step-keeps-meaning : {Γ : Context} {χ : Choice R} (W : WellFormed Γ) (F : Fits 𝓐 Γ χ) (S : Sort) (t : Tree) → Typed Γ S t → (s : Step)
       → Same S (stands 𝓐 Γ χ t) (stands 𝓐 Γ χ (stepOf Γ t s .tree))
-  step-keeps-meaning {Γ} W F S t d s = outcome-means 𝓡 W F (d .rules) (step-decided Γ t s (d .form .formed))
+  step-keeps-meaning {Γ} W F S t d s = outcome-means 𝓡 W F (d .rules) (step-decided Γ W S t d s)
 
   pub steps-keep-meaning : StepsKeepMeaning 𝓡
   unfolding stepsOf
@@ -129,11 +129,3 @@ module _ {R : Type 0} {𝓐 : Arithmetic R} (𝓡 : StarSemiring 𝓐) where
   run-proves Γ χ W F S p l r n ms e =
       let k = run-kept W F p l r n ms in
       same-trans S _ _ _ (k .left-same) (rw e (same-sym S _ _ (k .right-same)))
-
-pub gaussian-steps : GaussianSteps
-unfolding mean
-gaussian-steps Γ χ W F S h t d ss = alike-numbers _ _ .0 (same-alike S _ _ h .0 (steps-keep-meaning gaussian-laws Γ χ W F S t d ss))
-
-pub gaussian-run : GaussianRun
-unfolding mean
-gaussian-run Γ χ W F S h p l r n ms e = alike-numbers _ _ .0 (same-alike S _ _ h .0 (run-proves gaussian-laws Γ χ W F S p l r n ms e))

@@ -1,12 +1,29 @@
 -- When a part is an instance of a rule's left side with indices i and j, and what it becomes. Document 01, "The rules by number", from "Rules go left to right only" on.
 use mathlib.Core.Path.{_≡_}
-use mathlib.Core.Bool.{true}
 use Prim.Native.Nat.{ℕ, _+_, _<_}
 use Rattle.term.specs.Heads.{Label, scalar-zero, scalar-one, scalar-sum, scalar-product, scale, add}
 use Rattle.term.specs.Trees.{Tree, Forest, node, none, _▹_, _⧺_, count}
-use Rattle.types.specs.Sorts.{Context}
-use Rattle.rules.specs.Patterns.{Pattern, sortOf, fill}
-use Rattle.rules.specs.Table.{Kind, wanted, Which, child, child-i, Summand, plain, scaled, Rule, _⇒_▷_, spreading, removing, absorbing, merging, collecting, swapping}
+use Rattle.types.specs.Sorts.{Sort, ket, bra, operator, Context}
+use Rattle.types.specs.Rules.{_⊢_∶_}
+use Rattle.rules.specs.Patterns.{Pattern, #_, first, second, _⟨⟩, _⟨_⟩, _⟨_∣_⟩, firstIndex, secondIndex}
+use Rattle.rules.specs.Table.{Kind, any, a-ket, a-bra, an-operator, Which, child, child-i, Summand, plain, scaled, Rule, _⇒_▷_, spreading, removing, absorbing, merging, collecting, swapping}
+
+-- A side of an equation with the parts θ in its holes. Where it names an index of what hole k holds, that part has a type, and the index is the type's: 002's
+-- "K : K(τ) ⇒"
+pub data Filled (Γ : Context) (θ : ℕ → Tree) : Pattern → Tree → Type 0 where
+  hole : {k : ℕ} → Filled Γ θ (# k) (θ k)
+  first-of : {k : ℕ} {S : Sort} → Γ ⊢ θ k ∶ S → Filled Γ θ (first k) (firstIndex S)
+  second-of : {k : ℕ} {S : Sort} → Γ ⊢ θ k ∶ S → Filled Γ θ (second k) (secondIndex S)
+  over-none : {l : Label} → Filled Γ θ (l ⟨⟩) (node l none)
+  over-one : {l : Label} {p : Pattern} {t : Tree} → Filled Γ θ p t → Filled Γ θ (l ⟨ p ⟩) (node l (t ▹ none))
+  over-two : {l : Label} {p q : Pattern} {t u : Tree} → Filled Γ θ p t → Filled Γ θ q u → Filled Γ θ (l ⟨ p ∣ q ⟩) (node l (t ▹ u ▹ none))
+
+-- the part in hole 0 is of the kind that the rule wants: 002's "K : K(σ) ⇒"
+abbrev pub OfKind : Context → Kind → Tree → Type 0
+OfKind Γ any t = Unit {0}
+OfKind Γ a-ket t = (σ : Tree) × (Γ ⊢ t ∶ ket σ)
+OfKind Γ a-bra t = (σ : Tree) × (Γ ⊢ t ∶ bra σ)
+OfKind Γ an-operator t = (σ : Tree) × (τ : Tree) × (Γ ⊢ t ∶ operator σ τ)
 
 -- "of a 7, 8 or 20"
 pub data Chain : Label → Type 0 where
@@ -35,7 +52,8 @@ factor scaled a = a
 
 pub data Instance (Γ : Context) : Rule → ℕ → ℕ → Tree → Tree → Type 0 where
   -- the left side with parts in its holes becomes the right side with the same
-  equals : {k : Kind} {l r : Pattern} (θ : ℕ → Tree) → wanted k (sortOf Γ (θ 0)) ≡ true → Instance Γ (k ⇒ l ▷ r) 0 0 (fill Γ θ l) (fill Γ θ r)
+  equals : {k : Kind} {l r : Pattern} {p q : Tree} (θ : ℕ → Tree) → Filled Γ θ l p → Filled Γ θ r q → OfKind Γ k (θ 0)
+      → Instance Γ (k ⇒ l ▷ r) 0 0 p q
   -- "7 spreads child i, a sum"; the others a fixed child
   spreads : {l s r : Label} {w : Which} {i : ℕ} (before f after : Forest) → Picks w i (count before)
       → Instance Γ (spreading l w s r) i 0 (node l (before ⧺ node s f ▹ after)) (node r (spread l before f after))

@@ -4,4 +4,5 @@ pub mod Table
 pub mod Instances
 pub mod Rewrite
 pub mod Steps
+pub mod Outcomes
 pub mod Statements

@@ -1,23 +1,102 @@
--- What a part becomes by a rule, as a function. `proofs/Decided` shows that it answers exactly the instances.
-use mathlib.Core.Bool.{Bool, true, cond, _&&_, _||_}
+-- What a part becomes by a rule, as a function for the code to equal: the relation to believe is `Instance` of `Instances`. `Decides` of `Statements` says that
+-- the function answers exactly the instances of a typed part.
+use mathlib.Core.Bool.{Bool, true, false, cond, _&&_, _||_}
 use mathlib.Core.List.{List, [], _∷_, _++_}
 use mathlib.Core.Option.{Option, some, none as refused}
 use Prim.Native.Nat.{ℕ, zero, suc}
 use lib.Dec.{eqb, ltb}
 use lib.ListN.{length, getD}
 use Rattle.words.specs.Words.{sameWords}
-use Rattle.term.specs.Heads.{Label, word, scalar-zero, scalar-sum, scalar-product, scale, add}
+use Rattle.term.specs.Heads.{Label, type-name, basis-name, variable, index-product, pair, scalar-zero, scalar-one, scalar-sum, scalar-product, conjugate, delta, dot, zero-ket, zero-bra, zero-operator, identity, basis-ket, basis-bra, adjoint, scale, add, tensor, mulk, mulb, outer, mulo, word}
 use Rattle.term.specs.Trees.{Tree, Forest, node, none, _▹_, _⧺_, count, words}
-use Rattle.types.specs.Sorts.{Context}
-use Rattle.rules.specs.Patterns.{Pattern, #_, first, second, _⟨⟩, _⟨_⟩, _⟨_∣_⟩, no-index, sortOf, fill}
-use Rattle.rules.specs.Table.{Kind, wanted, Which, child, child-i, Summand, plain, scaled, Rule, _⇒_▷_, spreading, removing, absorbing, merging, collecting, swapping}
+use Rattle.types.specs.Sorts.{Sort, index, basis, scalar, ket, bra, operator, Context}
+use Rattle.types.specs.TypeOf.{Typed, typed, untyped, typeOf}
+use Rattle.rules.specs.Patterns.{Pattern, #_, first, second, _⟨⟩, _⟨_⟩, _⟨_∣_⟩, no-index, firstIndex, secondIndex}
+use Rattle.rules.specs.Table.{Kind, any, a-ket, a-bra, an-operator, Which, child, child-i, Summand, plain, scaled, Rule, _⇒_▷_, spreading, removing, absorbing, merging, collecting, swapping}
 use Rattle.rules.specs.Instances.{spread, factor}
+
+-- ---- heads
+-- a head without a name is known by its word
+abbrev pub nameless : Label → Bool
+nameless (type-name a) = false
+nameless (basis-name a) = false
+nameless (variable a) = false
+nameless index-product = true
+nameless pair = true
+nameless scalar-zero = true
+nameless scalar-one = true
+nameless scalar-sum = true
+nameless scalar-product = true
+nameless conjugate = true
+nameless delta = true
+nameless dot = true
+nameless zero-ket = true
+nameless zero-bra = true
+nameless zero-operator = true
+nameless identity = true
+nameless basis-ket = true
+nameless basis-bra = true
+nameless adjoint = true
+nameless scale = true
+nameless add = true
+nameless tensor = true
+nameless mulk = true
+nameless mulb = true
+nameless outer = true
+nameless mulo = true
 
 -- a label is the one that is wanted: their words over n children are the same
 unfoldable pub isHead : Label → Label → ℕ → Bool
 isHead l m n = eqb (word l n) (word m n)
 
+-- ---- the type of what a hole holds, and scalar for what has none
+abbrev pub sortIn : Typed → Sort
+sortIn (typed S) = S
+sortIn (untyped k) = scalar
+
+abbrev pub sortOf : Context → Tree → Sort
+sortOf Γ t = sortIn (typeOf Γ 0 t)
+
+abbrev pub isKet : Sort → Bool
+isKet (index σ) = false
+isKet (basis σ) = false
+isKet scalar = false
+isKet (ket σ) = true
+isKet (bra σ) = false
+isKet (operator σ τ) = false
+
+abbrev pub isBra : Sort → Bool
+isBra (index σ) = false
+isBra (basis σ) = false
+isBra scalar = false
+isBra (ket σ) = false
+isBra (bra σ) = true
+isBra (operator σ τ) = false
+
+abbrev pub isOperator : Sort → Bool
+isOperator (index σ) = false
+isOperator (basis σ) = false
+isOperator scalar = false
+isOperator (ket σ) = false
+isOperator (bra σ) = false
+isOperator (operator σ τ) = true
+
+abbrev pub wanted : Kind → Sort → Bool
+wanted any S = true
+wanted a-ket S = isKet S
+wanted a-bra S = isBra S
+wanted an-operator S = isOperator S
+
 -- ---- patterns
+-- a pattern with trees in its holes
+abbrev pub fill : Context → (ℕ → Tree) → Pattern → Tree
+fill Γ θ (# k) = θ k
+fill Γ θ (first k) = firstIndex (sortOf Γ (θ k))
+fill Γ θ (second k) = secondIndex (sortOf Γ (θ k))
+fill Γ θ (l ⟨⟩) = node l none
+fill Γ θ (l ⟨ p ⟩) = node l (fill Γ θ p ▹ none)
+fill Γ θ (l ⟨ p ∣ q ⟩) = node l (fill Γ θ p ▹ fill Γ θ q ▹ none)
+
 -- What the holes hold so far, in their order. A new hole takes the part; one that was met before wants the same part
 unfoldable pub andThen : Option (List Tree) → (List Tree → Option (List Tree)) → Option (List Tree)
 andThen refused f = refused

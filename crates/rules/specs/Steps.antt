@@ -1,4 +1,5 @@
--- A step, a list of steps on one term, and the run of a derivation's steps on two sides. Document 01, codes 20 to 23.
+-- A step, a list of steps on one term, and the run of a derivation's steps on two sides, as functions for the code to equal. The relation to believe of a step is
+-- `Outcome` of `Outcomes`; `StepDecided` of `Statements` says that `stepOf` answers as it says. Document 01, codes 20 to 23.
 use mathlib.Core.Bool.{Bool, true, cond, _&&_}
 use mathlib.Core.List.{List, [], _∷_}
 use mathlib.Core.Option.{Option, some, none}

@@ -16,7 +16,7 @@ use Rattle.rules.specs.Instances.{sums}
 use Rattle.rules.specs.Rewrite.{Opened, outside, open-at, multipleOf, collected, collectBefore, collectAt, rewrite}
 use Rattle.rules.proofs.Known.{is-head}
 use Rattle.step.specs.Code.Children.{kids}
-use Rattle.rulebook.specs.Rows.{summandNumber}
+use Rattle.rulebook.specs.Code.Rows.{summandNumber}
 use Rattle.step.specs.Code.Families.{Counted}
 use Rattle.rules.proofs.Opening.{At, too-far, there, at, open-past}
 use Rattle.step.proofs.Split.{root}

@@ -9,22 +9,25 @@ use lib.Dec.{eqb}
 use lib.ListN.{length}
 use Rattle.term.specs.declared.parts.Side.{Side}
 use Rattle.term.specs.declared.parts.Side.the-variants.{Left, Right}
-use Rattle.term.specs.Trees.{Tree, Formed}
+use Rattle.term.specs.Trees.{Tree}
 use Rattle.term.proofs.Places.{subtree-formed}
 use Rattle.types.specs.Sorts.{Sort, Context}
-use Rattle.types.specs.Rules.{WellFormed}
-use Rattle.rules.specs.Statements.{Taken, Outcome, good, no-rule, no-place, no-instance, too-big, Typed}
+use Rattle.types.specs.Rules.{WellFormed, Typed}
+use Rattle.types.proofs.Replace.{part-typed}
+use Rattle.rules.specs.Outcomes.{Taken, Outcome, good, no-rule, no-place, no-instance, too-big}
 use Rattle.rules.specs.Steps.{Step, limited, atPart, atPlace, byRule, stepOf, Move, Sides, sideNumber, chosen, put, Run, runOf}
 use Rattle.rules.proofs.Rules.{decides}
 use Rattle.rules.proofs.Steps.{step-decided, step-keeps-type}
 use Rattle.step.specs.Derivations.{AllTaken, no-more, one-more, Stopped, bad, later}
-use Rattle.step.specs.RunStatements.{andThen}
+use Rattle.step.specs.Runs.{andThen}
 
 -- ---- a step that is taken is what the function does
-taken-step : (Γ : Context) (t : Tree) (s : Step) (u : Tree) → Formed t → Taken Γ t s u → stepOf Γ t s ≡ record { code = 0; tree = u }
+taken-step : (Γ : Context) → WellFormed Γ → (S : Sort) (t : Tree) (s : Step) (u : Tree) → Typed Γ S t → Taken Γ t s u → stepOf Γ t s ≡ record { code = 0; tree = u }
 unfolding stepOf byRule atPlace atPart limited
-taken-step Γ t s u f k =
-    let e = decides Γ (s .rule) (k .r) (k .rule) (s .i) (s .j) (k .part) (k .new) (subtree-formed t (s .place) (k .part) f (k .there)) .1 (k .is) in
+taken-step Γ W S t s u d k =
+    let p = part-typed W t (s .place) (k .part) S (d .rules) (k .there) in
+    let formed = subtree-formed t (s .place) (k .part) (d .form .formed) (k .there) in
+    let e = decides Γ W (s .rule) (k .r) (k .rule) (s .i) (s .j) (k .part) (k .new) formed (p .0) (p .1) .1 (k .is) in
     rw (k .rule, k .there, e, ← k .result, k .limits)
 
 -- ---- both sides stay typed
@@ -68,7 +71,7 @@ module _ {Γ : Context} (W : WellFormed Γ) {S : Sort} where
   both-put : {p : Sides} {u : Tree} (m : Move) → Both Γ S p → Taken Γ (chosen (m .side) p) (m .step) u → Both Γ S (put (m .side) u p)
   both-put {p} {u} m b k =
       let d = chosen-typed b (m .side) in
-      both-with b (m .side) (rw (taken-step Γ (chosen (m .side) p) (m .step) u (d .form .formed) k) at (step-keeps-type Γ W S (chosen (m .side) p) d (m .step)))
+      both-with b (m .side) (rw (taken-step Γ W S (chosen (m .side) p) (m .step) u d k) at (step-keeps-type Γ W S (chosen (m .side) p) d (m .step)))
 
   pub all-typed : {p q : Sides} {ms : List Move} → Both Γ S p → AllTaken Γ p ms q → Both Γ S q
   all-typed b no-more = b
@@ -84,12 +87,12 @@ module _ {Γ : Context} (W : WellFormed Γ) {S : Sort} where
   all-run n b no-more = let z : n + 0 ≡ n = omega arith in rw z
   all-run n {p} b (one-more {u} {m} {ms} k a) =
       let z : n + 1 + length ms ≡ n + length (m ∷ ms) = omega arith in
-      rw (taken-step Γ (chosen (m .side) p) (m .step) u (chosen-typed b (m .side) .form .formed) k, ← z) (all-run (n + 1) (both-put m b k) a)
+      rw (taken-step Γ W S (chosen (m .side) p) (m .step) u (chosen-typed b (m .side)) k, ← z) (all-run (n + 1) (both-put m b k) a)
 
   pub went : (n : ℕ) (p : Sides) → Both Γ S p → (ms : List Move) → Went Γ n p ms (runOf Γ n p ms)
   unfolding runOf
   went n p b [] = ended n p
-  went n p b (m ∷ ms) = went-by (step-decided Γ (chosen (m .side) p) (m .step) (chosen-typed b (m .side) .form .formed)) (λ u k. went (n + 1) (put (m .side) u p) (both-put m b k) ms)
+  went n p b (m ∷ ms) = went-by (step-decided Γ W S (chosen (m .side) p) (chosen-typed b (m .side)) (m .step)) (λ u k. went (n + 1) (put (m .side) u p) (both-put m b k) ms)
 
 pub stopped-code : {Γ : Context} {n : ℕ} {p : Sides} {ms : List Move} {r : Run} → Stopped Γ n p ms r → r .code ≢ 0
 stopped-code (bad o h) = h

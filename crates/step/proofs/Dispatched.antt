@@ -4,24 +4,23 @@ use mathlib.Core.Logic.{_≢_}
 use mathlib.Core.Bool.{Bool, true, _&&_}
 use mathlib.Core.List.{List}
 use mathlib.Core.Option.{some, none}
-use Prim.Native.Nat.{ℕ, _-_, _/_, _<_}
+use Prim.Native.Nat.{ℕ, _/_, _<_}
 use native.Mathlib.Omega.{arith}
 use borrow.Author.Tests.{ne-eqb, eq-eqb, eqb-true, ltb-true}
 use lib.Dec.{eqb, ltb}
-use lib.ListN.{length, take, drop}
+use lib.ListN.{length, take}
 use Rattle.term.specs.Heads.{Label, scalar-zero, scalar-sum, scalar-product, add, word, read}
-use Rattle.term.specs.Trees.{Tree, Forest, node, none as no-tree, _▹_, count, Formed}
+use Rattle.term.specs.Trees.{Tree, Forest, node, none as no-tree, _▹_, count, words, Formed}
 use Rattle.term.specs.Parts.{Whole, parse, treeIn}
 use Rattle.term.proofs.Parsing.{parse-tree}
 use Rattle.types.specs.Sorts.{Context}
 use Rattle.rules.specs.Table.{Which, child, child-i, Rule, _⇒_▷_, spreading, removing, absorbing, merging, collecting, swapping, table, ruleOf}
 use Rattle.rules.specs.Instances.{Chain, scalar-sums, scalar-products, sums}
-use Rattle.rules.specs.Rewrite.{place, usable, rewrite}
+use Rattle.rules.specs.Rewrite.{nameless, place, usable, rewrite}
 use Rattle.rules.proofs.Every.{rule-passes}
 use Rattle.rules.proofs.Good.{good, both, every-good}
-use Rattle.rules.proofs.Known.{nameless}
 use Rattle.rulebook.specs.declared.Row.{Row}
-use Rattle.rulebook.specs.Rows.{headOf, startIn, rowFor, rowOf}
+use Rattle.rulebook.specs.Code.Rows.{headOf, startIn, rowFor, rowOf}
 use Rattle.step.specs.declared.writing.Rewritten.{Rewritten}
 use Rattle.step.specs.Code.Families.{chainWord, Does, Removes, Absorbs, Merges, Swaps, Spreads, Collects}
 use Rattle.step.specs.Code.Site.{Site, Equation, Fixed, Lined, an-equation, a-spreading, a-removing, an-absorbing, a-merging, a-collecting, a-swapping}
@@ -243,16 +242,16 @@ second-unused Γ i j (node m f) (a-merging x) a b h = rw (ne-eqb j 0 h)
 second-unused Γ i j t (a-collecting f c d) a b h = absurd (b f)
 second-unused Γ i j (node m f) (a-swapping x) a b h = rw (ne-eqb j 0 h)
 
--- ---- a site's words are a whole part, and its tree is the site's
-module _ {ds term : List ℕ} {at end : ℕ} (s : Site ds term at end) where
-  pub site-whole : Whole (take (end - at) (drop at term))
-  site-whole = (s .tree, s .formed, sym (site-words s))
+-- ---- the words of a site's part are whole, and its tree is the site's
+module _ {ds ws : List ℕ} {end : ℕ} (s : Site ds ws) (ends : end ≡ length (words (s .tree))) where
+  pub site-whole : Whole (take end ws)
+  site-whole = (s .tree, s .formed, sym (site-words s ends))
 
-  site-tree : treeIn (parse (take (end - at) (drop at term))) ≡ s .tree
+  site-tree : treeIn (parse (take end ws)) ≡ s .tree
   unfolding treeIn
-  site-tree = rw (site-words s, parse-tree (s .tree) (s .formed))
+  site-tree = rw (site-words s ends, parse-tree (s .tree) (s .formed))
 
   -- what a family does to the part's words, it does at the site
-  pub at-site : (Γ : Context) (rule : Rule) (i j k : ℕ) (out : List ℕ) (n : ℕ) (out′ : List ℕ) (r : Rewritten) → k ≡ j → Does (take (end - at) (drop at term)) out n out′ r rule i j
+  pub at-site : (Γ : Context) (rule : Rule) (i j k : ℕ) (out : List ℕ) (n : ℕ) (out′ : List ℕ) (r : Rewritten) → k ≡ j → Does (take end ws) out n out′ r rule i j
       → Writes (rewrite Γ rule i k (s .tree)) out n out′ r
   at-site Γ rule i j k out n out′ r e h = rw (e, ← site-tree) (h Γ)

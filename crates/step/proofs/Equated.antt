@@ -1,15 +1,15 @@
 -- An equation at a part: from the match of its left side to the words of its right side.
 use mathlib.Core.Path.{_≡_, refl, sym, _∙_, ap}
 use mathlib.Core.Logic.{_≢_}
-use mathlib.Core.Bool.{Bool, true, false, _&&_}
-use mathlib.Core.List.{List, [], map, append-nil}
-use mathlib.Core.Option.{Option, some, none, bind}
-use Prim.Native.Nat.{ℕ, _+_, _≤_, _<_}
+use mathlib.Core.Bool.{Bool, true, false, true≢false}
+use mathlib.Core.List.{List, []}
+use mathlib.Core.Option.{Option, some, none}
+use Prim.Native.Nat.{ℕ, _+_, _-_, _≤_, _<_}
 use native.Mathlib.Omega.{arith}
 use borrow.Author.Tests.{le-leb, eq-eqb, ne-eqb, ltb-true}
 use lib.Dec.{eqb}
-use lib.ListN.{length, take, drop, length-append, length-map}
-use Rattle.term.specs.Heads.{read, word}
+use lib.ListN.{length, take, drop, replicate, length-append}
+use Rattle.words.specs.Words.{overlaid}
 use Rattle.term.specs.Terms.{maxChildren}
 use Rattle.term.specs.Trees.{Tree, Forest, node, none as no-tree, _▹_, count, words, words*, Formed}
 use Rattle.term.proofs.Scan.{count-words}
@@ -17,39 +17,33 @@ use Rattle.types.specs.Sorts.{Sort, index, basis, scalar, ket, bra, operator, C
 use Rattle.types.specs.Rules.{_⊢_∶_, WellFormed}
 use Rattle.types.specs.TypeOf.{typeOf}
 use Rattle.types.proofs.Complete.{complete}
-use Rattle.rules.specs.Patterns.{Pattern, #_, first, second, _⟨⟩, _⟨_⟩, _⟨_∣_⟩, sortOf, fill}
-use Rattle.rules.specs.Table.{Kind, any, a-ket, a-bra, an-operator, wanted, Rule, _⇒_▷_, spreading, removing, absorbing, merging, collecting, swapping, ruleOf}
-use Rattle.rules.specs.Rewrite.{match, holes, filled, rewrite}
+use Rattle.rules.specs.Patterns.{Pattern, #_, first, second, _⟨⟩, _⟨_⟩, _⟨_∣_⟩}
+use Rattle.rules.specs.Table.{Kind, any, a-ket, a-bra, an-operator, Rule, _⇒_▷_, spreading, removing, absorbing, merging, collecting, swapping, ruleOf}
+use Rattle.rules.specs.Rewrite.{sortOf, wanted, fill, match, holes, filled, rewrite}
 use Rattle.rules.specs.Steps.{few, few*}
-use Rattle.rules.proofs.Every.{rule-passes}
 use Rattle.rules.proofs.Formed.{formed-few}
 use Rattle.rules.proofs.Good.{met, inOrder, below, asked, good, both, all-three, every-good}
 use Rattle.rules.proofs.Matching.{AllFormed, none-formed, matched}
+use Rattle.typebook.specs.Code.Shapes.{shapeOf, numberOf}
 use Rattle.rulebook.specs.declared.Row.{Row}
-use Rattle.rulebook.specs.Rows.{kindNumber, patternWords, allWords}
-use Rattle.rulebook.proofs.Rows.{sides-at, sides-inside, kind-at}
-use Rattle.step.specs.declared.matching.Match.{Match}
-use Rattle.step.specs.Code.Matching.{matchFrom, Holds, Matched, is-match, no-match}
-use Rattle.step.specs.Code.Building.{chosenIndex, allAsk}
-use Rattle.step.specs.Code.Shapes.{kindOf}
-use Rattle.step.specs.Code.Site.{Equation}
-use Rattle.step.proofs.Left.{childrenIn, headWord, made, no-context, left-words}
+use Rattle.rulebook.specs.Code.Rows.{kindNumber, patternWords, allWords}
+use Rattle.rulebook.proofs.Rows.{kind-at}
+use Rattle.rulebook.proofs.Made.{made, every-made}
+use Rattle.rulebook.proofs.Copied.{sizes, sides-short, left-copied, right-copied}
+use Rattle.matcher.specs.declared.Match.{Match}
+use Rattle.matcher.specs.Matching.{Found, holds, stops, matchOf}
+use Rattle.matcher.proofs.Theorems.{matches}
+use Rattle.step.specs.Code.Building.{chosenIndex, allAsk, Caught}
+use Rattle.step.specs.Code.Site.{Site, Equation}
 use Rattle.step.proofs.Right.{ask-words}
 use Rattle.step.proofs.Indices.{chosen-short}
+use Rattle.step.proofs.Sited.{caught}
 
--- ---- every equation of the table is made as the code reads it
-madeRule : Rule → Bool
-madeRule (k ⇒ l ▷ r) = made l && made r
-madeRule (spreading l w s r) = true
-madeRule (removing l c) = true
-madeRule absorbing = true
-madeRule merging = true
-madeRule (collecting u v) = true
-madeRule swapping = true
-
-every-made : (n : ℕ) {k : Kind} {l r : Pattern} → ruleOf n ≡ some (k ⇒ l ▷ r) → (made l ≡ true) × (made r ≡ true)
-unfolding madeRule made headWord childrenIn read word
-every-made n {k} {l} {r} e = both (made l) (made r) (rule-passes madeRule refl n (k ⇒ l ▷ r) e)
+kind-few : (k : Kind) → kindNumber k ≤ 3
+kind-few any = omega arith
+kind-few a-ket = omega arith
+kind-few a-bra = omega arith
+kind-few an-operator = omega arith
 
 -- a kind other than any is asked of hole 0
 asks-hole : (k : Kind) (n : ℕ) → asked k n ≡ true → kindNumber k ≢ 0 → 0 < n
@@ -61,14 +55,21 @@ asks-hole an-operator n e h = ltb-true 0 n e
 
 -- ---- the row of an equation
 module _ {row : Row} (e : Equation row) where
-  pub left-side : take (row .b) (drop (row .a) allWords) ≡ patternWords (e .left)
-  left-side = rw (e .is) (sides-at (e .number) (e .rule) .0)
+  pub sides-room : row .b + row .c ≤ 24
+  sides-room = rw (e .is) (sides-short (e .number) (e .rule))
 
-  pub right-side : take (row .c) (drop (row .a + row .b) allWords) ≡ patternWords (e .right)
-  right-side = rw (e .is) (sides-at (e .number) (e .rule) .1)
+  -- its words, copied
+  module _ {sides : List ℕ} (copied : sides ≡ overlaid (replicate 24 0) (drop (row .a) allWords)) where
+    pub left-side : take (row .b) sides ≡ patternWords (e .left)
+    left-side = rw (copied, e .is) (left-copied (e .number) (e .rule) (replicate 24 0) refl)
 
-  pub sides-room : row .a + row .b + row .c ≤ length allWords
-  sides-room = rw (e .is) (sides-inside (e .number) (e .rule))
+    pub right-side : take (row .b + row .c - row .b) (drop (row .b) sides) ≡ patternWords (e .right)
+    right-side =
+        let z : row .b + row .c - row .b ≡ row .c = omega arith in
+        rw (z, copied, e .is) (right-copied (e .number) (e .rule) (replicate 24 0) refl)
+
+    pub left-size : row .b ≡ length (take (row .b) sides)
+    left-size = sym (rw left-side (rw (e .is) (sym (sizes (e .number) (e .rule) .0))))
 
   pub right-made : made (e .right) ≡ true
   right-made = every-made (e .number) (e .rule) .1
@@ -76,53 +77,53 @@ module _ {row : Row} (e : Equation row) where
   pub kind-wanted : row .d ≡ kindNumber (e .kind)
   kind-wanted = rw (e .is) (kind-at (e .number) (e .rule))
 
--- ---- the left side's words match where the left side does
-missing-by : (o : Option (List Tree)) → bind o (λ d. some (map words d)) ≡ none → o ≡ none
-unfolding bind
-missing-by none e = refl
-missing-by (some d) e = absurd (let z : _≡_ {A = ℕ} 0 1 = cc in omega arith)
+  pub few-kinds : row .d ≤ 3
+  few-kinds = rw kind-wanted (kind-few (e .kind))
 
-module _ (n : ℕ) {k : Kind} {l r : Pattern} (rule : ruleOf n ≡ some (k ⇒ l ▷ r)) (t : Tree) (whole : Formed t) where
+-- ---- what a match found, as trees
+none-by : {ws : List ℕ} {n : ℕ} {m : Match} {o : Option (List Tree)} → Found ws n m o → m .whole ≡ false → o ≡ none
+none-by (holds h at) w = absurd (true≢false (sym (h .whole) ∙ w))
+none-by (stops z) w = refl
+
+-- matching looks at no context
+no-context : Context
+no-context = record { types = 0; bases = []; variables = [] }
+
+module _ (n : ℕ) {k : Kind} {l r : Pattern} (rule : ruleOf n ≡ some (k ⇒ l ▷ r)) {ds ws : List ℕ} (s : Site ds ws) where
   sides : (inOrder l 0 ≡ true) × ((below r (met l 0) ≡ true) × (asked k (met l 0) ≡ true))
   unfolding good
   sides = all-three (inOrder l 0) (below r (met l 0)) (asked k (met l 0)) (every-good n (k ⇒ l ▷ r) rule)
 
-  left-matched : matchFrom (patternWords l) (words t) [] ≡ bind (match l t []) (λ d. some (map words d))
-  unfolding matchFrom
-  left-matched = rw (append-nil, append-nil) at (left-words l t [] [] [] whole none-formed (sides .0) (every-made n rule .0))
-
-  -- what a match found, as trees
-  pub record Found (m : Match) : Type 0 where
+  pub record Caughts (m : Match) : Type 0 where
     pub trees : List Tree
-    pub matches : match l t [] ≡ some trees
-    pub held : List (List ℕ)
-    pub holds : Holds (words t) m held
-    pub same : held ≡ map words trees
+    pub matches : match l (s .tree) [] ≡ some trees
     pub formed : AllFormed trees
     pub many : m .held ≡ met l 0
+    pub held : Caught ds ws m trees
 
-  found-by : (m : Match) (o : Option (List Tree)) → match l t [] ≡ o → (c : List (List ℕ)) → Holds (words t) m c → bind o (λ d. some (map words d)) ≡ some c → Found m
-  unfolding bind
-  found-by m none e c h f = absurd (let z : _≡_ {A = ℕ} 0 1 = cc in omega arith)
-  found-by m (some d) e c h f =
-      let x = matched no-context l t [] d (sides .0) none-formed whole e in
-      let z : c ≡ map words d = cc in
-      record { trees = d; matches = e; held = c; holds = h; same = z; formed = x .formed; many = h .many ∙ ap length z ∙ length-map d words ∙ x .many }
+  caughts-by : {m : Match} {o : Option (List Tree)} → match l (s .tree) [] ≡ o → Found ws (length (words (s .tree))) m o → m .whole ≡ true → Caughts m
+  caughts-by e (holds {c} h at) w =
+      let x = matched no-context l (s .tree) [] c (sides .0) none-formed (s .formed) e in
+      record { trees = c; matches = e; formed = x .formed; many = h .many ∙ x .many; held = caught s h at (x .formed) }
+  caughts-by e (stops z) w = absurd (true≢false (sym w ∙ z))
 
-  pub found-in : (m : Match) → Matched (patternWords l) (words t) m → m .whole ≡ true → Found m
-  found-in m (is-match c e h f) w = found-by m (match l t []) refl c h (sym left-matched ∙ f)
-  found-in m (no-match e f) w = absurd (let z : _≡_ {A = ℕ} 0 1 = cc in omega arith)
+  -- the words of the left side were walked
+  module _ {m : Match} (walked : m ≡ matchOf (patternWords l) ws) where
+    found : Found ws (length (words (s .tree))) m (match l (s .tree) [])
+    found = rw (walked, s .whole) (matches n k l r rule (s .tree) (s .after) (s .formed))
 
-  pub found-none : (m : Match) → Matched (patternWords l) (words t) m → m .whole ≡ false → match l t [] ≡ none
-  found-none m (is-match c e h f) w = absurd (let z : _≡_ {A = ℕ} 0 1 = cc in omega arith)
-  found-none m (no-match e f) w = missing-by (match l t []) (sym left-matched ∙ f)
+    pub found-in : m .whole ≡ true → Caughts m
+    found-in = caughts-by refl found
+
+    pub found-none : m .whole ≡ false → match l (s .tree) [] ≡ none
+    found-none w = none-by found w
 
   -- the right side asks for holes of the left side, and a kind other than any for the first
-  pub right-asks : (m : Match) → Found m → allAsk (m .held) (patternWords r) ≡ true
-  right-asks m x = rw (x .many) (ask-words (met l 0) r (every-made n rule .1) (sides .1 .0))
+  pub right-asks : {m : Match} → Caughts m → allAsk (m .held) (patternWords r) ≡ true
+  right-asks x = rw (x .many) (ask-words (met l 0) r (every-made n rule .1) (sides .1 .0))
 
-  pub kind-asks : (m : Match) → Found m → kindNumber k ≢ 0 → 0 < m .held
-  kind-asks m x h = rw (x .many) (asks-hole k (met l 0) (sides .1 .1) h)
+  pub kind-asks : {m : Match} → Caughts m → kindNumber k ≢ 0 → 0 < m .held
+  kind-asks x h = rw (x .many) (asks-hole k (met l 0) (sides .1 .1) h)
 
 -- ---- a filled right side has few children at each node
 mutual
@@ -173,7 +174,7 @@ module _ (Γ : Context) (k : Kind) (l r : Pattern) (t : Tree) where
     equated d h w = rw (eq-eqb i 0 e, eq-eqb j 0 f, h, w)
 
 -- ---- the kind that a rule wants of hole 0
-kind-wanted-by : (S : Sort) (k : Kind) → kindNumber k ≢ 0 → eqb (kindOf S) (kindNumber k) ≡ wanted k S
+kind-wanted-by : (S : Sort) (k : Kind) → kindNumber k ≢ 0 → eqb (numberOf (shapeOf S .class)) (3 + kindNumber k) ≡ wanted k S
 kind-wanted-by S any h = absurd (h refl)
 kind-wanted-by (index σ) a-ket h = refl
 kind-wanted-by (basis σ) a-ket h = refl
@@ -201,5 +202,5 @@ any-kind S a-bra e = absurd (omega arith)
 any-kind S an-operator e = absurd (omega arith)
 
 -- the number that was read off it, of its sort
-pub wanted-by : (Γ : Context) (t : Tree) (S : Sort) → Γ ⊢ t ∶ S → (k : Kind) (kind n : ℕ) → kind ≡ kindNumber k → kind ≢ 0 → n ≡ kindOf S → eqb n kind ≡ wanted k (sortOf Γ t)
+pub wanted-by : (Γ : Context) (t : Tree) (S : Sort) → Γ ⊢ t ∶ S → (k : Kind) (kind n : ℕ) → kind ≡ kindNumber k → kind ≢ 0 → n ≡ numberOf (shapeOf S .class) → eqb n (3 + kind) ≡ wanted k (sortOf Γ t)
 wanted-by Γ t S d k kind n e other f = rw (f, e, complete Γ d 0) (kind-wanted-by S k (λ x. other (e ∙ x)))

@@ -6,7 +6,7 @@ use Prim.Native.Nat.{ℕ, _-_, _/_}
 use native.Mathlib.Omega.{arith}
 use lib.ListN.{take, drop, getD}
 use Rattle.words.specs.Words.{Added}
-use Rattle.words.proofs.Runs.{added-both}
+use Rattle.words.proofs.Runs.{added-both, added-as}
 use Rattle.term.specs.Heads.{word, add}
 use Rattle.term.specs.Trees.{Tree, Forest, node, none, _▹_, count, _⧺_, words, words*}
 use Rattle.term.proofs.Parsing.{count-⧺, words*-⧺}
@@ -14,7 +14,6 @@ use Rattle.rules.specs.Instances.{sums}
 use Rattle.rules.specs.Rewrite.{Multiple}
 use Rattle.rules.specs.Steps.{few, few*}
 use Rattle.rules.proofs.Formed.{formed-few*}
-use Rattle.step.proofs.Added.{added-as}
 use Rattle.step.proofs.Split.{before-run, behind-child, before-formed, after-formed}
 use Rattle.step.proofs.Heads.{chain-word}
 use Rattle.step.proofs.Tested.{named, parent-is, chain-parent, siblings-few}

@@ -1,20 +1,24 @@
 -- A head is known by its number, the upper byte of its word.
 use mathlib.Core.Path.{_≡_, refl, sym, _∙_}
 use mathlib.Core.Logic.{_≢_}
-use mathlib.Core.Bool.{Bool, true, false, cond, _||_}
+use mathlib.Core.Bool.{Bool, true, false, cond, _||_, Bool·beq}
 use Prim.Native.Nat.{ℕ, _+_, _*_, _/_, _%_, _≤_}
+use native.Mathlib.Decide.{decLt}
 use native.Mathlib.Omega.{arith}
 use borrow.Author.Tests.{eqb-true, eq-eqb, ne-eqb}
 use lib.Dec.{eqb}
-use lib.ListN.{length, getD}
+use lib.ListN.{length, getD, List·getD-eq-default}
+use Rattle.words.specs.Listed.{allUpTo}
+use Rattle.words.proofs.Listed.{allUpTo-at}
 use Rattle.term.specs.Heads.{Label, type-name, basis-name, variable, index-product, pair, scalar-zero, scalar-one, scalar-sum, scalar-product, conjugate, delta, dot, zero-ket, zero-bra, zero-operator, identity, basis-ket, basis-bra, adjoint, scale, add, tensor, mulk, mulb, outer, mulo, Head, unknown, named, fixed, counted, heads, word, unread, labelled, reading, read}
 use Rattle.term.specs.Trees.{Forest, node, count, Formed}
 use Rattle.term.proofs.Readings.{read-few}
 use Rattle.rules.specs.Instances.{Chain, scalar-sums, scalar-products, sums}
-use Rattle.rules.specs.Rewrite.{isHead, isChain}
-use Rattle.rules.proofs.Known.{nameless, is-head, head-is}
+use Rattle.rules.specs.Rewrite.{nameless, isHead, isChain}
+use Rattle.rules.proofs.Known.{is-head, head-is}
 use Rattle.rules.proofs.Decided.{either}
-use Rattle.rulebook.specs.Rows.{headOf}
+use Rattle.typebook.specs.Code.Lines.{rules, ruleAt, isSum}
+use Rattle.rulebook.specs.Code.Rows.{headOf}
 use Rattle.step.specs.Code.Families.{chainWord}
 
 -- ---- the line of the table that a head's number picks is that head's
@@ -121,7 +125,23 @@ head-test l m f p h =
 pub other-head : (l m : Label) (f : Forest) → nameless l ≡ true → Formed (node m f) → word m (count f) / 256 ≢ headOf l → isHead l m (count f) ≡ false
 other-head l m f p h n = sym (head-test l m f p h) ∙ ne-eqb _ _ n
 
--- ---- and of a chain
+-- ---- and of a chain: the heads of sums and products of many are 7, 8 and 20
+sumHead : ℕ → Bool
+sumHead h = eqb h 7 || (eqb h 8 || eqb h 20)
+
+same-bool : (a b : Bool) → Bool·beq a b ≡ true → a ≡ b
+same-bool true true e = refl
+same-bool true false e = sym e
+same-bool false true e = e
+same-bool false false e = refl
+
+pub sum-heads : (h : ℕ) → isSum h ≡ (eqb h 7 || (eqb h 8 || eqb h 20))
+unfolding ruleAt rules sumHead allUpTo
+sum-heads h = elim (decLt h 26) [
+  | yes l ↦ same-bool _ _ (allUpTo-at 26 (λ k. Bool·beq (isSum k) (sumHead k)) refl h l)
+  | no l ↦ rw (List·getD-eq-default rules 0 {n = h} (omega (arith, l)), ne-eqb h 7 (λ z. omega (arith, l, z)), ne-eqb h 8 (λ z. omega (arith, l, z)), ne-eqb h 20 (λ z. omega (arith, l, z)))
+]
+
 pub chain-test : (m : Label) (f : Forest) → Formed (node m f) → chainWord (word m (count f)) ≡ isChain m (count f)
 unfolding isChain word
 chain-test m f h = rw (head-test scalar-sum m f refl h, head-test scalar-product m f refl h, head-test add m f refl h)

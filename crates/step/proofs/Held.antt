@@ -10,7 +10,7 @@ use Rattle.term.specs.Parts.{treeIn}
 use Rattle.term.specs.Terms.{maxWords}
 use Rattle.term.specs.Trees.{Tree, words, depth}
 use Rattle.term.proofs.Parsing.{parse-tree}
-use Rattle.types.specs.Rules.{IsType}
+use Rattle.types.specs.Rules.{IsType, Typed}
 use Rattle.types.specs.Sorts.{Sort}
 use Rattle.declarations.specs.Declarations.{contextIn, goodDeclarations}
 use Rattle.declarations.proofs.Entries.{counts-in}
@@ -19,7 +19,6 @@ use Rattle.typing.specs.Answers.{typingOf, TypedTerm}
 use Rattle.typing.proofs.Theorems.{complete-entry}
 use Rattle.lent.proofs.Judging.{type-code}
 use Rattle.rules.specs.Steps.{stepOf}
-use Rattle.rules.specs.Statements.{Typed}
 use Rattle.lent.specs.declared.steps.Step.{Step}
 use Rattle.lent.specs.Lent.{asked}
 use Rattle.step.specs.Answers.{held, stepIn}

@@ -1,14 +1,14 @@
 -- The indices of a part's type: they are short, and which side of the part each is.
-use mathlib.Core.Path.{_≡_, refl}
+use mathlib.Core.Path.{_≡_, refl, _∙_}
 use mathlib.Core.Logic.{_≢_}
 use mathlib.Core.Bool.{Bool, true, false}
 use mathlib.Core.List.{List, [], _∷_}
-use Prim.Native.Nat.{ℕ, _≤_}
+use Prim.Native.Nat.{ℕ, _≤_, _<_}
 use native.Mathlib.Omega.{arith}
 use lib.Dec.{eqb}
 use lib.ListN.{length}
 use Rattle.term.specs.Heads.{word}
-use Rattle.term.specs.Terms.{maxIndex}
+use Rattle.term.specs.Terms.{maxDepth, maxIndex}
 use Rattle.term.specs.Trees.{Tree, words}
 use Rattle.term.specs.Parts.{parse, treeIn}
 use Rattle.types.specs.Sorts.{Sort, index, basis, scalar, ket, bra, operator, Context}
@@ -17,10 +17,14 @@ use Rattle.types.specs.TypeOf.{Typed, typed, untyped, typeOf}
 use Rattle.types.proofs.Complete.{complete}
 use Rattle.types.proofs.Proper.{proper, index-short}
 use Rattle.types.proofs.Sound.{sound}
-use Rattle.rules.specs.Patterns.{no-index, firstIndex, secondIndex, sortIn, sortOf}
-use Rattle.step.specs.Code.Building.{chosenIndex}
-use Rattle.step.specs.Code.Shapes.{kindOf, Side, of-ket, of-bra, of-rows, of-columns, Begins}
-use Rattle.step.proofs.Beginnings.{begins-tree}
+use Rattle.rules.specs.Patterns.{no-index, firstIndex, secondIndex}
+use Rattle.rules.specs.Rewrite.{sortIn, sortOf}
+use Rattle.typebook.specs.Code.Shapes.{shapeOf, numberOf}
+use Rattle.declarations.specs.Declarations.{contextIn}
+use Rattle.shapes.specs.Reading.{sideIn, Read, classAt, sideAt}
+use Rattle.shapes.proofs.Begun.{begins-tree}
+use Rattle.shapes.proofs.Theorems.{reads, index-read}
+use Rattle.step.specs.Code.Building.{HasSort, chosenIndex}
 
 -- ---- an index of a type is short, and so is what stands for none
 none-short : length (words no-index) ≤ maxIndex
@@ -46,17 +50,17 @@ module _ {Γ : Context} (W : WellFormed Γ) where
   chosen-short b t (typed S) e = sort-short b S (proper W (sound W 0 t e))
   chosen-short b t (untyped k) e = sort-short b scalar tt
 
--- ---- the code's choice, by the number of the kind
-module _ (k : ℕ) where
-  pub second-there : (S : Sort) → k ≡ kindOf S → k ≡ 3 → Side true S (secondIndex S)
+-- ---- the code's choice, by the number of the class that was read off: the index is on a side, or there is none
+module _ (n : ℕ) where
+  second-there : (S : Sort) → n ≡ numberOf (shapeOf S .class) → n ≡ 6 → sideIn true (shapeOf S) ≡ words (secondIndex S)
   second-there (index σ) e h = absurd (omega arith)
   second-there (basis σ) e h = absurd (omega arith)
   second-there scalar e h = absurd (omega arith)
   second-there (ket σ) e h = absurd (omega arith)
   second-there (bra σ) e h = absurd (omega arith)
-  second-there (operator σ τ) e h = of-columns
+  second-there (operator σ τ) e h = refl
 
-  pub second-missing : (S : Sort) → k ≡ kindOf S → k ≢ 3 → 1280 ∷ [] ≡ words (secondIndex S)
+  second-missing : (S : Sort) → n ≡ numberOf (shapeOf S .class) → n ≢ 6 → 1280 ∷ [] ≡ words (secondIndex S)
   unfolding words word
   second-missing (index σ) e h = refl
   second-missing (basis σ) e h = refl
@@ -65,15 +69,15 @@ module _ (k : ℕ) where
   second-missing (bra σ) e h = refl
   second-missing (operator σ τ) e h = absurd (h e)
 
-  pub first-there : (S : Sort) → k ≡ kindOf S → k ≢ 0 → Side (eqb k 2) S (firstIndex S)
-  first-there (index σ) e h = absurd (h e)
-  first-there (basis σ) e h = absurd (h e)
-  first-there scalar e h = absurd (h e)
-  first-there (ket σ) e h = rw e of-ket
-  first-there (bra σ) e h = rw e of-bra
-  first-there (operator σ τ) e h = rw e of-rows
+  first-there : (S : Sort) → n ≡ numberOf (shapeOf S .class) → 4 ≤ n → sideIn (eqb n 5) (shapeOf S) ≡ words (firstIndex S)
+  first-there (index σ) e h = absurd (omega arith)
+  first-there (basis σ) e h = absurd (omega arith)
+  first-there scalar e h = absurd (omega arith)
+  first-there (ket σ) e h = rw e
+  first-there (bra σ) e h = rw e
+  first-there (operator σ τ) e h = rw e
 
-  pub first-missing : (S : Sort) → k ≡ kindOf S → k ≡ 0 → 1280 ∷ [] ≡ words (firstIndex S)
+  first-missing : (S : Sort) → n ≡ numberOf (shapeOf S .class) → n < 4 → 1280 ∷ [] ≡ words (firstIndex S)
   unfolding words word
   first-missing (index σ) e h = refl
   first-missing (basis σ) e h = refl
@@ -82,7 +86,35 @@ module _ (k : ℕ) where
   first-missing (bra σ) e h = absurd (omega arith)
   first-missing (operator σ τ) e h = absurd (omega arith)
 
--- ---- of the sort that typing finds
-pub index-of : {Γ : Context} {ws : List ℕ} {n : ℕ} {t : Tree} {S : Sort} → Begins ws n t → Γ ⊢ t ∶ S → (b second : Bool) → second ≡ b → {vs : List ℕ} → vs ≡ words (chosenIndex b S)
-    → vs ≡ words (chosenIndex second (sortOf Γ (treeIn (parse ws))))
-index-of {Γ} b d c second e h = rw (begins-tree b, complete Γ d 0, e) h
+-- ---- what is read off a typed part at the front of the words
+module _ (ds ws : List ℕ) (h : HasSort ds ws) where
+  abbrev sort : Sort
+  sort = h .1 .2 .0
+
+  reading : Read ds ws maxDepth 0 sort
+  reading = reads ds ws maxDepth 0 (h .1 .0) sort (h .0) (h .1 .1) (h .1 .2 .1)
+
+  -- the index that typing finds
+  abbrev pub indexOf : Bool → List ℕ
+  indexOf second = words (chosenIndex second (sortOf (contextIn ds) (treeIn (parse ws))))
+
+  index-is : (b second : Bool) → second ≡ b → {vs : List ℕ} → vs ≡ words (chosenIndex b sort) → vs ≡ indexOf second
+  index-is b second e x = rw (begins-tree (h .1 .1), complete (contextIn ds) (h .1 .2 .1) 0, e) x
+
+  module _ (n : ℕ) (class : n ≡ classAt ds ws maxDepth 0) where
+    pub class-is : n ≡ numberOf (shapeOf sort .class)
+    class-is = class ∙ reading .class
+
+    module _ (second : Bool) (is : second ≡ true) where
+      pub second-read : n ≡ 6 → sideAt ds ws true maxDepth 0 ≡ indexOf second
+      second-read e = index-is true second is (index-read reading true (secondIndex sort) (second-there n sort class-is e))
+
+      pub no-second : n ≢ 6 → 1280 ∷ [] ≡ indexOf second
+      no-second e = index-is true second is (second-missing n sort class-is e)
+
+    module _ (second : Bool) (is : second ≡ false) where
+      pub first-read : 4 ≤ n → sideAt ds ws (eqb n 5) maxDepth 0 ≡ indexOf second
+      first-read e = index-is false second is (index-read reading (eqb n 5) (firstIndex sort) (first-there n sort class-is e))
+
+      pub no-first : n < 4 → 1280 ∷ [] ≡ indexOf second
+      no-first e = index-is false second is (first-missing n sort class-is e)

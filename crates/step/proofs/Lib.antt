@@ -1,5 +1,4 @@
 -- The laws of stepping.
-mod Added
 mod Split
 mod Walk
 mod Heads
@@ -11,11 +10,6 @@ mod Removed
 mod Absorbed
 mod Merged
 mod Swapped
-mod Walks
-mod Left
-mod Declared
-mod Sides
-mod Beginnings
 mod Indices
 mod Pieces
 mod Right
@@ -32,10 +26,12 @@ mod Dispatched
 mod Limits
 mod Putting
 mod Stepped
-mod Held
+pub mod Held
 mod Taking
 mod Moving
 mod Begun
 mod Courses
+mod Alike
 pub mod Theorems
 pub mod RunTheorems
+pub mod Examples

@@ -12,7 +12,8 @@ use Rattle.words.specs.Words.{Added}
 use Rattle.term.specs.Trees.{Tree, Forest, node, none, _▹_, count, words, words*, depth, depth*, replace, replace*, level, level*}
 use Rattle.term.specs.Parts.{parse, first, part}
 use Rattle.term.specs.Terms.{maxWords, maxDepth, maxChildren, firstDepth, partDepth, levelAt}
-use Rattle.term.proofs.Parsing.{parse-tree, prefix-free}
+use Rattle.term.proofs.Parsing.{parse-tree}
+use Rattle.term.proofs.Theorems.{one-reading}
 use Rattle.term.proofs.Scan.{part-length}
 use Rattle.term.proofs.Places.{place, subtree-inside, subtree-formed, replace-formed, words-replace, length-replace, level-replace, depth-replace, level-words, part-there}
 use Rattle.rules.specs.Steps.{few, few*, within, limited}
@@ -119,7 +120,7 @@ module _ {term : List ℕ} {at : ℕ} (f : Seated term at) where
       let p = place (f .tree) at seat-inside in
       let x : p .here ≡ f .part = cc in
       let w : words (replace (f .tree) at (f .part)) ≡ words (f .tree) = rw (← x) (p .replaced (p .here) ∙ sym (p .whole)) in
-      prefix-free _ _ (replace-formed (f .tree) at (f .part) (f .formed) (subtree-formed (f .tree) at (f .part) (f .formed) (f .there))) (f .formed) [] [] (ap (λ (ws : List ℕ). ws ++ []) w)
+      one-reading _ _ (replace-formed (f .tree) at (f .part) (f .formed) (subtree-formed (f .tree) at (f .part) (f .formed) (f .there))) (f .formed) w
 
   seat-depth : partDepth term at ≡ depth (f .part)
   unfolding partDepth firstDepth

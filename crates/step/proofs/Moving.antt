@@ -52,7 +52,7 @@ module _ {ds ws : List ℕ} {n : ℕ} {S : Sort} {t : Tree} (x : Holding ds ws n
     after = stepOf (contextIn ds) t (asked s)
 
     stays : after .code ≢ 0 → after .tree ≡ t
-    stays = stays-by (step-decided (contextIn ds) t (asked s) (x .typed .form .formed))
+    stays = stays-by (step-decided (contextIn ds) (well-formed ds (x .good)) S t (x .typed) (asked s))
 
     module _ {code n′ size : ℕ} {ws′ : List ℕ} (told : Tells ds ws n s code n′ ws′ size) where
       code-after : code ≡ after .code

@@ -18,7 +18,7 @@ use Rattle.rules.specs.Rewrite.{isHead, Multiple, no-multiple, multiple, multip
 use Rattle.rules.specs.Steps.{few}
 use Rattle.rules.proofs.Known.{is-head}
 use Rattle.rules.proofs.Formed.{formed-few}
-use Rattle.rulebook.specs.Rows.{summandNumber}
+use Rattle.rulebook.specs.Code.Rows.{summandNumber}
 use Rattle.step.proofs.Split.{Split, child-word, child-run, inside-child, child-bounds, child-formed}
 
 -- the form that a number asks for: any but 0 is taken for 1

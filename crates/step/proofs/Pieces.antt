@@ -8,19 +8,18 @@ use native.Mathlib.Numerals.{add-one}
 use native.Mathlib.Omega.{arith}
 use borrow.Author.Tests.{lt-ltb, le-ltb, eq-eqb, ne-eqb, ltb-true}
 use lib.Dec.{eqb}
-use lib.ListN.{length, take, drop, getD, length-drop}
-use lib.Seq.{take-all, getD-take, getD-drop, length-take-le}
+use lib.ListN.{length, take, drop, getD}
+use Rattle.words.proofs.Runs.{to-end}
 use Rattle.term.specs.Trees.{Tree, words}
 use Rattle.term.specs.Parts.{parse, treeIn}
 use Rattle.term.specs.Terms.{maxDepth}
 use Rattle.types.specs.Sorts.{Context}
-use Rattle.rules.specs.Patterns.{sortOf}
-use Rattle.rules.specs.Rewrite.{holes}
-use Rattle.step.specs.declared.matching.Match.{Match}
-use Rattle.step.specs.Code.Matching.{startOf, endOf}
-use Rattle.step.specs.Code.Building.{chosenIndex, piece, pieces, asks, allAsk, Caught}
-use Rattle.step.specs.Code.Shapes.{Begins, Sorted, HasKind}
-use Rattle.step.proofs.Beginnings.{begins-tree, tail-begins}
+use Rattle.rules.specs.Rewrite.{sortOf, holes}
+use Rattle.matcher.specs.declared.Match.{Match}
+use Rattle.matcher.specs.Matching.{startOf, endOf}
+use Rattle.shapes.specs.Reading.{Begins}
+use Rattle.shapes.proofs.Begun.{begins-tree}
+use Rattle.step.specs.Code.Building.{Sorted, HasSort, chosenIndex, piece, pieces, asks, allAsk, Caught}
 
 -- ---- one word
 module _ (Γ : Context) (c : List Tree) (w : ℕ) where
@@ -43,28 +42,31 @@ unfolding asks
 asked-hole n w e h = ltb-true (w % 256) n (rw (le-ltb (w / 256) 253 h) at e)
 
 -- ---- what a match holds
-module _ {ds term : List ℕ} {place : ℕ} {m : Match} {c : List Tree} (h : Caught ds term place m c) (k : ℕ) (met : k < m .held) where
-  pub caught-bounds : (k < 5) × (startOf m k ≤ endOf m k) × (place + endOf m k ≤ length term)
-  caught-bounds = let l : k < 5 = omega (arith, h .many, h .few) in (l, h .spans k l .0, h .spans k l .1)
-
+module _ {ds ws : List ℕ} {m : Match} {c : List Tree} (h : Caught ds ws m c) (k : ℕ) (met : k < m .held) where
   met-tree : k < length c
-  met-tree = omega (arith, h .many)
+  met-tree = omega (arith, h .holds .many)
 
-  pub caught-run : take (place + endOf m k - (place + startOf m k)) (drop (place + startOf m k) term) ≡ words (holes c k)
-  caught-run = let z : place + endOf m k - (place + startOf m k) ≡ endOf m k - startOf m k = omega arith in rw z (h .are k met-tree)
+  pub caught-bounds : (k < 5) × (startOf m k ≤ endOf m k) × (endOf m k ≤ length ws)
+  caught-bounds =
+      let l : k < 5 = omega (arith, h .holds .few, met-tree) in
+      let b = h .holds .standing .spans k l in
+      (l, b .0, omega (arith, b .1, h .holds .standing .inside))
 
-  pub caught-tree : treeIn (parse (drop (place + startOf m k) term)) ≡ holes c k
-  caught-tree = begins-tree (h .begins k met-tree)
+  pub caught-run : take (endOf m k - startOf m k) (drop (startOf m k) ws) ≡ words (holes c k)
+  caught-run = h .holds .are k met-tree
 
   -- it is typed, and stands at the front of the words from there on
   pub caught-sorted : Sorted ds (holes c k)
   caught-sorted = h .sorted k met-tree
 
-  pub caught-tail : Begins (take (length term - (place + startOf m k)) (drop (place + startOf m k) term)) maxDepth (holes c k)
-  caught-tail = tail-begins term (place + startOf m k) (h .begins k met-tree)
+  pub caught-begins : Begins (take (length ws - startOf m k) (drop (startOf m k) ws)) maxDepth (holes c k)
+  caught-begins = rw (to-end ws (startOf m k)) (h .begins k met-tree)
 
-  pub caught-kind : HasKind ds (drop (place + startOf m k) term) maxDepth
-  caught-kind = (h .good, (holes c k, h .begins k met-tree, h .sorted k met-tree))
+  pub caught-tree : treeIn (parse (take (length ws - startOf m k) (drop (startOf m k) ws))) ≡ holes c k
+  caught-tree = begins-tree caught-begins
+
+  abbrev pub caught-sort : HasSort ds (take (length ws - startOf m k) (drop (startOf m k) ws))
+  caught-sort = (h .good, (holes c k, caught-begins, caught-sorted))
 
 -- ---- the whole walk: what was written are the pieces of the words that were passed
 pieces-more : (Γ : Context) (c : List Tree) (ws : List ℕ) (k : ℕ) → k < length ws → pieces Γ c (take k ws) ++ piece Γ c (getD ws k 0) ≡ pieces Γ c (take (suc k) ws)
@@ -81,22 +83,10 @@ all-ask n [] e k h = absurd (omega arith)
 all-ask n (w ∷ ws) e zero h = and-eq-true-iff (asks n w) _ .0 e .0
 all-ask n (w ∷ ws) e (suc k) h = all-ask n ws (and-eq-true-iff (asks n w) _ .0 e .1) k (omega arith)
 
-module _ (all : List ℕ) (from n : ℕ) (inside : from + n ≤ length all) where
-  -- the words of a side, one by one
-  abbrev side : List ℕ
-  side = take n (drop from all)
+-- ---- the words of a side, one by one
+module _ (side : List ℕ) (k : ℕ) (more : k < length side) where
+  pub side-asks : (held : ℕ) → allAsk held side ≡ true → asks held (getD side k 0) ≡ true
+  side-asks held e = all-ask held side e k more
 
-  side-length : length side ≡ n
-  side-length = length-take-le n (drop from all) (omega (arith, length-drop from all))
-
-  side-word : (k : ℕ) → k < n → getD side k 0 ≡ getD all (from + k) 0
-  side-word k h = getD-take n (drop from all) k 0 h ∙ getD-drop from all k 0
-
-  pub side-asks : (held : ℕ) → allAsk held side ≡ true → (k : ℕ) → k < n → asks held (getD all (from + k) 0) ≡ true
-  side-asks held e k h = rw (← side-word k h) (all-ask held side e k (rw side-length h))
-
-  pub side-more : (Γ : Context) (c : List Tree) (k : ℕ) → k < n → pieces Γ c (take k side) ++ piece Γ c (getD all (from + k) 0) ≡ pieces Γ c (take (k + 1) side)
-  side-more Γ c k h = rw (← side-word k h, add-one) (pieces-more Γ c side k (rw side-length h))
-
-  pub side-all : (k : ℕ) → n ≤ k → take k side ≡ side
-  side-all k h = take-all k side (rw side-length h)
+  pub side-more : (Γ : Context) (c : List Tree) → pieces Γ c (take k side) ++ piece Γ c (getD side k 0) ≡ pieces Γ c (take (k + 1) side)
+  side-more Γ c = rw add-one (pieces-more Γ c side k more)

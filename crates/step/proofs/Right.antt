@@ -10,12 +10,12 @@ use lib.Dec.{ltb}
 use Rattle.term.specs.Heads.{word}
 use Rattle.term.specs.Trees.{Tree, count, words}
 use Rattle.types.specs.Sorts.{Context}
-use Rattle.rules.specs.Patterns.{Pattern, #_, first, second, _⟨⟩, _⟨_⟩, _⟨_∣_⟩, firstIndex, secondIndex, sortOf, fill}
-use Rattle.rules.specs.Rewrite.{holes}
+use Rattle.rules.specs.Patterns.{Pattern, #_, first, second, _⟨⟩, _⟨_⟩, _⟨_∣_⟩, firstIndex, secondIndex}
+use Rattle.rules.specs.Rewrite.{sortOf, fill, holes}
 use Rattle.rules.proofs.Good.{below, both}
-use Rattle.rulebook.specs.Rows.{patternWords}
+use Rattle.rulebook.specs.Code.Rows.{patternWords}
 use Rattle.step.specs.Code.Building.{piece, pieces, asks, allAsk}
-use Rattle.step.proofs.Left.{headWord, head-plain, made}
+use Rattle.rulebook.proofs.Made.{headWord, made, head-plain}
 use Rattle.step.proofs.Pieces.{piece-word}
 
 module _ (Γ : Context) (c : List Tree) where

@@ -11,28 +11,24 @@ use lib.Dec.{eqb}
 use lib.ListN.{length, take, drop, replicate, length-drop}
 use lib.Seq.{drop-append-le}
 use Rattle.algebra.specs.Semirings.{Arithmetic, StarSemiring}
-use Rattle.algebra.specs.Gaussian.{Gaussian, gaussian}
-use Rattle.algebra.proofs.Gaussian.{gaussian-laws}
 use Rattle.words.specs.Words.{cleared, sameWords, agreeing}
 use Rattle.words.proofs.Runs.{same-words, same-words-eq, agreeing-take, agreeing-differ}
 use Rattle.words.specs.Listed.{upTo}
 use Rattle.words.proofs.Listed.{length-upTo, upTo-split}
 use Rattle.term.specs.Parts.{parse, treeIn}
 use Rattle.term.specs.Trees.{Tree, words, Formed}
-use Rattle.term.proofs.Parsing.{parse-tree, prefix-free}
+use Rattle.term.proofs.Parsing.{parse-tree}
+use Rattle.term.proofs.Theorems.{one-reading}
 use Rattle.term.proofs.Comparing.{first-difference}
 use Rattle.types.specs.Sorts.{Sort, Context}
-use Rattle.types.specs.Rules.{_⊢_∶_, WellFormed}
+use Rattle.types.specs.Rules.{_⊢_∶_, WellFormed, Typed}
 use Rattle.types.proofs.Complete.{unique}
 use Rattle.meaning.specs.Choices.{Choice}
-use Rattle.meaning.specs.Meaning.{stands, mean}
-use Rattle.meaning.specs.Sorted.{Fits, Same, EqualNumbers}
-use Rattle.meaning.proofs.Theorems.{same-alike, alike-numbers, gaussian-shape}
+use Rattle.meaning.specs.Sorted.{Fits}
 use Rattle.declarations.specs.Declarations.{contextIn}
 use Rattle.declarations.proofs.Entries.{well-formed}
 use Rattle.typing.specs.Answers.{HeldTerm, TypedTerm}
 use Rattle.rules.specs.Steps.{Move, Sides, Run, runOf}
-use Rattle.rules.specs.Statements.{Typed}
 use Rattle.rules.proofs.Steps.{run-keeps-meaning, run-proves}
 use Rattle.step.specs.declared.run.Answer as A
 use Rattle.lent.specs.declared.faults.Fault.{Fault}
@@ -40,10 +36,11 @@ use Rattle.step.specs.Answers.{held}
 use Rattle.lent.specs.Lent.{moveIn, movesIn, stepsFault}
 use Rattle.lent.specs.Faults.{fault, faultIn}
 use Rattle.step.specs.Runs.{refusal, compared, answered, runFrom, runIn, runAnswer, slice, leftAfter, rightAfter}
-use Rattle.step.specs.Derivations.{AllTaken, Accepted, Decision, untouched, refused, stopped, differ, accepted}
+use Rattle.step.specs.Derivations.{AllTaken, Accepted, Decision, untouched, refused, stopped, differ, accepted, Kept}
 use Rattle.lent.specs.Refusals.{Refused, wrong-size, bad-declarations, no-term, bad-steps, left-untyped, left-no-type, right-untyped, right-no-type, types-differ, Begun, Judged, found, none}
-use Rattle.step.specs.RunStatements.{Accepts, Decides, Alike, Kept, Keeps, Proves, Pieces}
+use Rattle.step.specs.Statements.{Accepts, Decides, Keeps, Proves, Pieces}
 use Rattle.step.proofs.Held.{its-type}
+use Rattle.step.proofs.Alike.{alike}
 use Rattle.step.proofs.Begun as B
 use Rattle.step.proofs.Begun.{start}
 use Rattle.lent.proofs.Tests.{its-tree, fitting}
@@ -115,7 +112,7 @@ module _ (ds left : List ℕ) (n : ℕ) (right : List ℕ) (m : ℕ) (steps : Li
   slices b = (rw (no-fault b), rw (no-fault b), rw (no-fault b))
 
   same-end : {S : Sort} {q : Sides} → Both Γ S q → words (q .left) ≡ words (q .right) → q .left ≡ q .right
-  same-end {q} b e = prefix-free (q .left) (q .right) (b .left .form .formed) (b .right .form .formed) [] [] (ap (λ (ws : List ℕ). ws ++ []) e)
+  same-end {q} b e = one-reading (q .left) (q .right) (b .left .form .formed) (b .right .form .formed) e
 
   ends-by : {p q : Sides} {S : Sort} (b : Bool) → Begins p S → AllTaken Γ p moves q → sameWords (words (q .left)) (words (q .right)) ≡ b
       → Decision ds left n right m steps count (compared (words (q .left)) (length (words (q .left))) (words (q .right)) (length (words (q .right))) count) (held (q .left)) (held (q .right))
@@ -198,16 +195,6 @@ module _ (ds left : List ℕ) (n : ℕ) (right : List ℕ) (m : ℕ) (steps : Li
     typed-end : Both Γ S end
     typed-end = went-typed (went W 0 p (both b) moves)
 
-    numbers-of : (t u : Tree) → ((R : Type 0) (𝓐 : Arithmetic R) → StarSemiring 𝓐 → (χ : Choice R) → Fits 𝓐 Γ χ → Same S (stands 𝓐 Γ χ t) (stands 𝓐 Γ χ u))
-        → (χ : Choice Gaussian) → Fits gaussian Γ χ → EqualNumbers (mean gaussian Γ χ t) (mean gaussian Γ χ u)
-    unfolding mean
-    numbers-of t u same χ F = alike-numbers _ _ .0 (same-alike S _ _ (b .left-term .isType) .0 (same _ gaussian gaussian-laws χ F))
-
-    alike : {t u : Tree} → Typed Γ S t → Typed Γ S u → ((R : Type 0) (𝓐 : Arithmetic R) → StarSemiring 𝓐 → (χ : Choice R) → Fits 𝓐 Γ χ → Same S (stands 𝓐 Γ χ t) (stands 𝓐 Γ χ u)) → Alike Γ S t u
-    alike {t} {u} d k same =
-        let h = b .left-term .isType in
-        record { typed = k; same = same; numbers = numbers-of t u same; shapes = λ χ F. (gaussian-shape Γ χ W F t S h (d .rules), gaussian-shape Γ χ W F u S h (k .rules)) }
-
     lengths-by : (c : Bool) (r : Run) → eqb (r .code) 0 ≡ c → (answered r .left ≡ length (words (r .sides .left))) × (answered r .right ≡ length (words (r .sides .right)))
     unfolding answered compared
     lengths-by true r e = (rw e, rw e)
@@ -222,8 +209,8 @@ module _ (ds left : List ℕ) (n : ℕ) (right : List ℕ) (m : ℕ) (steps : Li
           left-slice = rw (run-at b) at (s .0);
           right-slice = rw (run-at b) at (s .1);
           lengths = rw (s .2, run-at b) l;
-          left-alike = alike (both b .left) (typed-end .left) (λ R 𝓐 𝓡 χ F. keeps R 𝓐 𝓡 χ F .2);
-          right-alike = alike (both b .right) (typed-end .right) (λ R 𝓐 𝓡 χ F. keeps R 𝓐 𝓡 χ F .3);
+          left-alike = alike W (b .left-term .isType) (both b .left) (typed-end .left) (λ R 𝓐 𝓡 χ F. keeps R 𝓐 𝓡 χ F .2);
+          right-alike = alike W (b .left-term .isType) (both b .right) (typed-end .right) (λ R 𝓐 𝓡 χ F. keeps R 𝓐 𝓡 χ F .3);
         }
 
 pub accepts : Accepts
@@ -234,10 +221,9 @@ keeps ds left n right m steps count p S b = (_, kept ds left n right m steps cou
 
 pub proves : Proves
 proves ds left n right m steps count a =
-    let b = begins ds left n right m steps count a in
     let W = well-formed ds (a .left-term .good) in
     let e : let q = runOf (contextIn ds) 0 (a .start) (movesIn steps count) .sides in q .left ≡ q .right = rw (run-all ds left n right m steps count a) (a .same) in
-    alike ds left n right m steps count b (its-type (a .left-term)) (its-type (a .right-term))
+    alike W (a .left-term .isType) (its-type (a .left-term)) (its-type (a .right-term))
     (λ R 𝓐 𝓡 χ F. run-proves 𝓡 (contextIn ds) χ W F (a .sort) (a .start) (its-type (a .left-term)) (its-type (a .right-term)) 0 (movesIn steps count) e)
 
 pub decides : Decides

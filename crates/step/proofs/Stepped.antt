@@ -10,12 +10,15 @@ use native.Mathlib.Nat.{zero-add}
 use native.Mathlib.Omega.{arith}
 use borrow.Author.Tests.{lt-ltb, le-ltb}
 use lib.Dec.{leb}
-use lib.ListN.{length, drop, length-append}
+use lib.ListN.{length, take, drop, length-append, length-drop}
+use lib.Seq.{drop-at}
 use Rattle.words.specs.Words.{Added}
+use Rattle.words.proofs.Runs.{to-end}
 use Rattle.term.specs.Trees.{Tree, Forest, node, none as no-tree, _▹_, count, words, words*, Formed, Subtree, outside, found, subtree, replace, replace*}
 use Rattle.term.specs.Parts.{parse, first, part}
 use Rattle.term.specs.Terms.{maxWords, maxChildren}
-use Rattle.term.proofs.Places.{place, part-there, subtree-inside, subtree-formed, subtree-depth}
+use Rattle.term.proofs.Parsing.{parse-words}
+use Rattle.term.proofs.Places.{place, subtree-inside, subtree-formed, subtree-depth}
 use Rattle.types.specs.Sorts.{Context}
 use Rattle.types.proofs.Replace.{part-typed}
 use Rattle.declarations.specs.Declarations.{contextIn}
@@ -27,13 +30,14 @@ use Rattle.rules.proofs.AllTypes.{rule-keeps}
 use Rattle.rules.proofs.Formed.{typed-formed}
 use Rattle.rules.proofs.Rules.{decides}
 use Rattle.rulebook.specs.declared.Row.{Row}
-use Rattle.rulebook.specs.Rows.{rowOf}
+use Rattle.rulebook.specs.Code.Rows.{rowOf}
 use Rattle.step.specs.declared.writing.Rewritten.{Rewritten}
 use Rattle.step.specs.Code.Making.{Termed, Fresh, Made}
 use Rattle.step.specs.Code.Site.{Site, Lined}
 use Rattle.step.specs.Code.Writing.{Writes}
 use Rattle.step.proofs.Dispatched.{lined, no-line, some-line}
 use Rattle.step.proofs.Limits.{too-many}
+use Rattle.step.proofs.Sited.{site-end}
 use Rattle.step.proofs.Written.{Way, refused, done, exceeded, way, way-size}
 
 -- ---- the tests of `stepOf`
@@ -88,14 +92,12 @@ module _ {ds term : List ℕ} (x : Termed ds term) (k : ℕ) (inside : k < lengt
   there : subtree (x .tree) k ≡ found (place (x .tree) k within-words .here)
   there = place (x .tree) k within-words .is
 
-  part-of : part term k ≡ words (place (x .tree) k within-words .here)
-  unfolding part first
-  part-of =
-      ap (λ (ws : List ℕ). first (parse (drop k ws))) (sym (x .is))
-      ∙ ap first (part-there (x .tree) k _ (x .typed .form .formed) there .1)
+  -- the words from the place on
+  abbrev tail : List ℕ
+  tail = take (length term - k) (drop k term)
 
-  pub site : (e : ℕ) → e ≡ k + length (part term k) → Site ds term k e
-  site e h =
+  pub site : Site ds tail
+  site =
       let p = place (x .tree) k within-words in
       let d = part-typed (well-formed ds (x .good)) (x .tree) k (p .here) (x .sort) (x .typed .rules) (p .is) in
       record {
@@ -105,16 +107,23 @@ module _ {ds term : List ℕ} (x : Termed ds term) (k : ℕ) (inside : k < lengt
         shallow = omega (arith, subtree-depth (x .tree) k (p .here) (p .is), x .typed .form .shallow);
         sort = d .0;
         typed = d .1;
-        before = p .before;
         after = p .after;
-        whole = sym (x .is) ∙ p .whole;
-        begins = sym (p .offset);
-        ends = h ∙ ap (λ (ws : List ℕ). k + length ws) part-of;
+        whole = to-end term k ∙ ap (drop k) (sym (x .is) ∙ p .whole) ∙ drop-at (p .before) _ k (p .offset);
       }
 
-  site-tree : (e : ℕ) (h : e ≡ k + length (part term k)) → site e h .tree ≡ place (x .tree) k within-words .here
+  site-tree : site .tree ≡ place (x .tree) k within-words .here
   unfolding site
-  site-tree e h = refl
+  site-tree = refl
+
+  -- and where the part ends in them
+  pub site-size : (end : ℕ) → end ≡ 0 + length (part tail 0) → end ≡ length (words (site .tree))
+  unfolding part first
+  site-size end e =
+      let p : part tail 0 ≡ words (site .tree) = rw (site .whole, parse-words (site .tree) (site .formed) (site .after)) refl in
+      omega (arith, e, ap length p)
+
+  pub site-room : (end : ℕ) → end ≡ 0 + length (part tail 0) → k + end ≤ maxWords
+  site-room end e = omega (arith, inside, site-end site (site-size end e), ap length (to-end term k), length-drop k term, x .typed .form .short, ap length (x .is))
 
 -- ---- a result with too many children somewhere has them in its place too
 mutual
@@ -160,9 +169,9 @@ module _ {ds term : List ℕ} (x : Termed ds term) (s : Step) where
   -- what rewriting a part promises of the scratch slice
   abbrev Promise : Row → ℕ → List ℕ → List ℕ → Rewritten → Type 0
   Promise row end old out r =
-      (z : Site ds term (s .place) end) (rule : Rule) → Lined row rule → Writes (rewrite (contextIn ds) rule (s .i) (s .j) (z .tree)) old 0 out r
+      (z : Site ds (take (length term - s .place) (drop (s .place) term))) (rule : Rule) → end ≡ length (words (z .tree)) → Lined row rule → Writes (rewrite (contextIn ds) rule (s .i) (s .j) (z .tree)) old 0 out r
 
-  module _ {row : Row} (k : Ruled row (s .rule)) (inside : s .place < length term) (old : List ℕ) (size : length old ≡ maxWords) (end : ℕ) (ends : end ≡ s .place + length (part term (s .place)))
+  module _ {row : Row} (k : Ruled row (s .rule)) (inside : s .place < length term) (old : List ℕ) (size : length old ≡ maxWords) (end : ℕ) (ends : end ≡ 0 + length (part (take (length term - s .place) (drop (s .place) term)) 0))
       (out : List ℕ) (r : Rewritten) (promise : Promise row end old out r) where
     abbrev here : Tree
     here = place (x .tree) (s .place) (within-words x (s .place) inside) .here
@@ -174,7 +183,7 @@ module _ {ds term : List ℕ} (x : Termed ds term) (s : Step) where
     is-there = there x (s .place) inside
 
     its-way : Way old 0 out r result
-    its-way = way result (rw (site-tree x (s .place) inside end ends) at (promise (site x (s .place) inside end ends) (k .rule) (k .lines)))
+    its-way = way result (rw (site-tree x (s .place) inside) at (promise (site x (s .place) inside) (k .rule) (site-size x (s .place) inside end ends) (k .lines)))
 
     out-size : length out ≡ maxWords
     out-size = way-size its-way ∙ size
@@ -193,7 +202,7 @@ module _ {ds term : List ℕ} (x : Termed ds term) (s : Step) where
 
     -- and where it did not
     pub record Fine : Type 0 where
-      pub fresh : Fresh term (s .place) end out (r .end)
+      pub fresh : Fresh term (s .place) (s .place + end) out (r .end)
       same : fresh .tree ≡ x .tree
       steps : after ≡ limited (fresh .tree) (replace (fresh .tree) (s .place) (fresh .result))
 
@@ -202,10 +211,10 @@ module _ {ds term : List ℕ} (x : Termed ds term) (s : Step) where
         let W = well-formed ds (x .good) in
         let p = part-typed W (x .tree) (s .place) here (x .sort) (x .typed .rules) is-there in
         let formed = subtree-formed (x .tree) (s .place) here (x .typed .form .formed) is-there in
-        let i = decides (contextIn ds) (s .rule) (k .rule) (k .is) (s .i) (s .j) here q formed .0 e in
+        let i = decides (contextIn ds) W (s .rule) (k .rule) (k .is) (s .i) (s .j) here q formed (p .0) (p .1) .0 e in
         typed-formed W (rule-keeps W (s .rule) (k .rule) (k .is) (s .i) (s .j) here q (p .0) i (p .1)) f
 
-    fresh-of : (q : Tree) → result ≡ some q → few q ≡ true → Added old 0 (words q) out (r .end) → Fresh term (s .place) end out (r .end)
+    fresh-of : (q : Tree) → result ≡ some q → few q ≡ true → Added old 0 (words q) out (r .end) → Fresh term (s .place) (s .place + end) out (r .end)
     fresh-of q e f a =
         record {
           tree = x .tree;
@@ -215,7 +224,7 @@ module _ {ds term : List ℕ} (x : Termed ds term) (s : Step) where
           shallow = x .typed .form .shallow;
           part = here;
           there = is-there;
-          ends = ends ∙ ap (λ (ws : List ℕ). s .place + length ws) (part-of x (s .place) inside);
+          ends = ap (λ (n : ℕ). s .place + n) (rw (site-tree x (s .place) inside) at (site-size x (s .place) inside end ends));
           result = q;
           result-formed = result-formed q e f;
           size = out-size;

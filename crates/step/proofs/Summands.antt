@@ -6,13 +6,12 @@ use native.Mathlib.Omega.{arith}
 use lib.ListN.{length, take, drop, length-append}
 use lib.Seq.{take-at, drop-append-seam, drop-drop}
 use Rattle.words.specs.Words.{Added}
-use Rattle.words.proofs.Runs.{added-both}
+use Rattle.words.proofs.Runs.{added-both, added-as, none-added}
 use Rattle.term.specs.Trees.{Tree, Forest, none, _▹_, _⧺_, words, words*, Formed, Formed*}
 use Rattle.term.specs.Parts.{part}
 use Rattle.term.proofs.Parsing.{⧺-none, ⧺-assoc, words*-⧺, Formed*-⧺, some-words}
 use Rattle.term.proofs.Scan.{whole-part}
 use Rattle.rules.specs.Instances.{spread}
-use Rattle.step.proofs.Added.{added-as, none-added}
 use Rattle.step.proofs.Split.{no-words, Split, inside-child, replaced-words, child-bounds, child-formed}
 use Rattle.step.proofs.Spread.{spread-more}
 

@@ -7,7 +7,7 @@ use Prim.Native.Nat.{ℕ, _-_}
 use native.Mathlib.Omega.{arith}
 use lib.ListN.{length, take, drop, getD}
 use Rattle.words.specs.Words.{Added}
-use Rattle.words.proofs.Runs.{added-both, to-end}
+use Rattle.words.proofs.Runs.{added-both, to-end, added-as}
 use Rattle.term.specs.Trees.{node, _▹_, _⧺_, count, words, Formed, Formed*}
 use Rattle.term.specs.Parts.{Whole, parse, treeIn}
 use Rattle.term.proofs.Parsing.{count-⧺, words*-⧺}
@@ -18,7 +18,6 @@ use Rattle.rules.specs.Steps.{few}
 use Rattle.rules.proofs.Formed.{formed-few, formed-few*}
 use Rattle.step.specs.Code.Children.{kids}
 use Rattle.step.specs.Code.Families.{chainWord}
-use Rattle.step.proofs.Added.{added-as}
 use Rattle.step.proofs.Split.{root, Split, up-to-child, child-run, before-formed, child-formed, after-formed}
 use Rattle.step.proofs.Next.{Next, last-child}
 use Rattle.step.proofs.Tested.{cond-same, root-chain, root-outside, parent-is-chain}

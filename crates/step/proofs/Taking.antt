@@ -15,11 +15,12 @@ use Rattle.term.specs.Terms.{maxWords}
 use Rattle.term.proofs.Places.{subtree-inside}
 use Rattle.types.specs.Sorts.{Context, Sort}
 use Rattle.declarations.specs.Declarations.{contextIn}
+use Rattle.declarations.proofs.Entries.{well-formed}
 use Rattle.typing.specs.declared.terms.Typing.{Typing}
 use Rattle.typing.specs.Answers.{typingOf, TypedTerm}
 use Rattle.typing.proofs.Theorems.{sound-entry}
 use Rattle.rules.specs.Steps as R
-use Rattle.rules.specs.Statements.{Outcome, good, no-rule, no-place, no-instance, too-big}
+use Rattle.rules.specs.Outcomes.{Outcome, good, no-rule, no-place, no-instance, too-big}
 use Rattle.rules.proofs.Steps.{step-decided}
 use Rattle.lent.specs.declared.steps.Step.{Step}
 use Rattle.step.specs.declared.single.Answer.{Answer}
@@ -83,7 +84,7 @@ module _ (ds ws : List ℕ) (n : ℕ) (accepted : typingOf ds ws n .code ≡ 0) 
     after = stepIn ds ws n s
 
     outcome : Outcome (contextIn ds) tree (asked s) (after .code) (after .tree)
-    outcome = rw (its-step is-typed s) (step-decided (contextIn ds) tree (asked s) (is-typed .term .formed))
+    outcome = rw (its-step is-typed s) (step-decided (contextIn ds) (well-formed ds (is-typed .good)) sort tree (its-type is-typed) (asked s))
 
     stays : after .code ≢ 0 → after .tree ≡ tree
     stays = stays-by outcome

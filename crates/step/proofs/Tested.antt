@@ -14,7 +14,7 @@ use Rattle.term.proofs.Parsing.{count-⧺}
 use Rattle.rules.specs.Instances.{Chain}
 use Rattle.rules.specs.Rewrite.{isHead, isChain, outside, open-at}
 use Rattle.step.specs.Code.Children.{kids}
-use Rattle.rulebook.specs.Rows.{headOf}
+use Rattle.rulebook.specs.Code.Rows.{headOf}
 use Rattle.step.specs.Code.Families.{chainWord, Named, Counted}
 use Rattle.step.proofs.Split.{Root, root, first-word, Split, parent-word, child-word, child-formed}
 use Rattle.step.proofs.Few.{formed-count}

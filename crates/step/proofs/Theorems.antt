@@ -8,13 +8,14 @@ use Rattle.types.specs.Sorts.{Sort}
 use Rattle.declarations.specs.Declarations.{contextIn}
 use Rattle.declarations.proofs.Entries.{well-formed}
 use Rattle.typing.specs.Answers.{TypedTerm}
-use Rattle.meaning.proofs.Theorems.{gaussian-shape}
 use Rattle.rules.specs.Steps.{stepOf, stepsOf}
-use Rattle.rules.proofs.Steps.{step-decided, step-keeps-type, steps-keep-type, steps-keep-meaning, gaussian-steps}
+use Rattle.rules.proofs.Steps.{step-decided, step-keeps-type, steps-keep-type, steps-keep-meaning}
 use Rattle.lent.specs.declared.steps.Step.{Step}
 use Rattle.lent.specs.Lent.{asked}
 use Rattle.step.specs.Answers.{stepped, answerTo, wordsLeft}
-use Rattle.step.specs.Statements.{Entry, Refusals, Work, holding, after, afterAll, Course, ended, called, leaving, Lists}
+use Rattle.step.specs.Calls.{Work, holding, after, afterAll, Course, ended, called, leaving}
+use Rattle.step.specs.Statements.{Entry, Refusals, Lists}
+use Rattle.step.proofs.Alike.{alike}
 use Rattle.step.proofs.Held.{accepted-code, its-step, its-type, held-typed}
 
 -- ---- one call
@@ -52,7 +53,7 @@ module _ {ds : List ℕ} {S : Sort} where
   course : {w : Work} {t : Tree} → Holds ds w t S → (ss : List Step) → Course ds w t ss (steps ds t ss)
   unfolding stepsOf
   course h [] = ended
-  course {t} h (s ∷ ss) = called (step-decided _ t (asked s) (h .term .formed)) (entry _ _ _ _ _ h s) (course (holds-next h s) ss)
+  course {t} h (s ∷ ss) = called (step-decided _ (well-formed ds (h .good)) S t (its-type h) (asked s)) (entry _ _ _ _ _ h s) (course (holds-next h s) ss)
 
   left-after : {w : Work} {t : Tree} → Holds ds w t S → (ss : List Step) → afterAll ds w ss ≡ leaving w ss (steps ds t ss)
   unfolding afterAll stepsOf
@@ -64,14 +65,5 @@ pub lists : Lists
 lists ds w t S h ss =
     let W = well-formed ds (h .good) in
     let d = its-type h in
-    let k = steps-keep-type _ W S t d (map asked ss) in (
-      steps ds t ss,
-      record {
-        course = course h ss;
-        left = left-after h ss;
-        typed = k;
-        same = λ R 𝓐 𝓡 χ F. steps-keep-meaning 𝓡 _ χ W F S t d (map asked ss);
-        numbers = λ χ F. gaussian-steps _ χ W F S (h .isType) t d (map asked ss);
-        shapes = λ χ F. (gaussian-shape _ χ W F t S (h .isType) (d .rules), gaussian-shape _ χ W F _ S (h .isType) (k .rules));
-      },
-    )
+    let k = alike W (h .isType) d (steps-keep-type _ W S t d (map asked ss)) (λ R 𝓐 𝓡 χ F. steps-keep-meaning 𝓡 _ χ W F S t d (map asked ss)) in
+    (steps ds t ss, record { course = course h ss; left = left-after h ss; alike = k })

@@ -1,4 +1,5 @@
--- The answer of "the single step", and the words that it leaves: document 01, "What comes out, by whose doing".
+-- The answer of "the single step", and the words that it leaves, as functions for the code to equal. The relations to believe are `Verdict` of `typing` Statements, before the step, and
+-- `Outcome` of `rules` Outcomes; `Refusals` and `Entry` of `Statements`, with `StepDecided` of `rules` Statements, say that the answer is so. Document 01, "What comes out, by whose doing".
 use mathlib.Core.Bool.{cond}
 use mathlib.Core.List.{List, _++_}
 use Prim.Native.Nat.{ℕ, _-_}

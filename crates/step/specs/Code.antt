@@ -2,8 +2,6 @@
 pub mod Children
 pub mod Writing
 pub mod Families
-pub mod Matching
-pub mod Shapes
 pub mod Building
 pub mod Site
 pub mod Making

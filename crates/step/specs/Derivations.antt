@@ -8,14 +8,15 @@ use Rattle.term.specs.Trees.{Tree, words}
 use Rattle.types.specs.Sorts.{Sort, Context}
 use Rattle.declarations.specs.Declarations.{contextIn}
 use Rattle.typing.specs.Answers.{TypedTerm}
-use Rattle.rules.specs.Statements.{Taken, Outcome}
+use Rattle.rules.specs.Outcomes.{Taken, Outcome}
 use Rattle.rules.specs.Steps.{Move, Sides, sideNumber, chosen, put, Run}
 use Rattle.step.specs.declared.run.Answer as A
 use Rattle.step.specs.Answers.{held}
 use Rattle.lent.specs.Lent.{movesIn}
 use Rattle.lent.specs.Faults.{fault}
 use Rattle.lent.specs.Refusals.{InOrder, Refused, Begun}
-use Rattle.step.specs.Runs.{refusal}
+use Rattle.step.specs.Runs.{refusal, runAnswer, leftAfter, rightAfter}
+use Rattle.step.specs.Alike.{Alike}
 
 -- ---- the steps
 -- each is taken on its side, from the sides p to the sides q
@@ -46,7 +47,7 @@ zeros ws = replicate (length ws) 0
 
 -- ---- what is lent
 module _ (ds left : List ℕ) (n : ℕ) (right : List ℕ) (m : ℕ) (steps : List ℕ) (count : ℕ) where
-  -- Demand 2: "both terms have one type by the published rules, each step is an instance of its rule at its place within the limits, and the ends agree"
+  -- Demand 2: "both terms have one and the same type .. by the published typing rules .., each step is an instance of its numbered rule .. at its place and stays inside the limits, and the two terms then agree"
   pub record Accepted : Type 0 where
     pub start : Sides
     pub end : Sides
@@ -66,3 +67,11 @@ module _ (ds left : List ℕ) (n : ℕ) (right : List ℕ) (m : ℕ) (steps : Li
     differ : {p q : Sides} {S : Sort} {k : ℕ} → Begun ds left n right m steps count p S → AllTaken (contextIn ds) p (movesIn steps count) q → Differ (words (q .left)) (words (q .right)) k
         → Decision (answer 30 0 count k q) (held (q .left)) (held (q .right))
     accepted : (a : Accepted) → Decision (answer 0 0 count 0 (a .end)) (held (a .end .left)) (held (a .end .right))
+
+  -- Demand 3: "the term that the file gives for each side and what the replay leaves of it are alike in shape and in every such number", at codes 0, 20 to 23 and 30
+  pub record Kept (p : Sides) (S : Sort) (q : Sides) : Type 1 where
+    pub left-slice : leftAfter ds left n right m steps count ≡ held (q .left)
+    pub right-slice : rightAfter ds left n right m steps count ≡ held (q .right)
+    pub lengths : (runAnswer ds left n right m steps count .left ≡ length (words (q .left))) × (runAnswer ds left n right m steps count .right ≡ length (words (q .right)))
+    pub left-alike : Alike (contextIn ds) S (p .left) (q .left)
+    pub right-alike : Alike (contextIn ds) S (p .right) (q .right)

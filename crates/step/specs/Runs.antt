@@ -1,4 +1,5 @@
--- The run of a derivation's steps on two sides: its answer, and the words that it leaves. Document 01, "What comes out, by whose doing".
+-- The run of a derivation's steps on two sides, as functions for the code to equal: its answer, and the words that it leaves. The relation to believe is `Decision` of `Derivations`, and
+-- `Decides` of `RunStatements` says that the run is so. Document 01, "What comes out, by whose doing".
 use mathlib.Core.Bool.{cond}
 use mathlib.Core.List.{List}
 use Prim.Native.Nat.{ℕ}
@@ -40,6 +41,10 @@ answered r =
 unfoldable pub runFrom : Context → Sides → List ℕ → ℕ → ℕ → Run
 unfolding runOf movesIn
 runFrom Γ p steps from to = runOf Γ from p (drop from (movesIn steps to))
+
+-- what comes after a run whose steps were all good
+abbrev pub andThen : Run → (Sides → Run) → Run
+andThen r f = cond (eqb (r .code) 0) (f (r .sides)) r
 
 -- what is lent: declarations, two work slices with their lengths, the steps with their count
 module _ (ds left : List ℕ) (n : ℕ) (right : List ℕ) (m : ℕ) (steps : List ℕ) (count : ℕ) where

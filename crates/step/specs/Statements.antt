@@ -1,89 +1,64 @@
--- What is proved of the single step: of one call on a typed term, of one that is refused before, and of a whole list of calls.
+-- What is proved of the single step and of the run.
 use mathlib.Core.Path.{_≡_}
-use mathlib.Core.Logic.{_≢_}
-use mathlib.Core.List.{List, [], _∷_}
-use Prim.Native.Nat.{ℕ}
-use lib.ListN.{length, replicate}
-use Rattle.algebra.specs.Semirings.{Arithmetic, StarSemiring}
-use Rattle.algebra.specs.Gaussian.{Gaussian, gaussian}
-use Rattle.term.specs.Trees.{Tree, words}
-use Rattle.types.specs.Sorts.{Sort}
-use Rattle.meaning.specs.Choices.{Choice}
-use Rattle.meaning.specs.Meaning.{stands, mean}
-use Rattle.meaning.specs.Sorted.{Shaped, Fits, Same, EqualNumbers}
+use mathlib.Core.Logic.{_↔_, _≢_}
+use mathlib.Core.List.{List}
+use Prim.Native.Nat.{ℕ, _+_}
+use Rattle.term.specs.Trees.{Tree}
+use Rattle.types.specs.Sorts.{Sort, Context}
 use Rattle.declarations.specs.Declarations.{contextIn}
 use Rattle.typing.specs.Answers.{typingOf, TypedTerm}
-use Rattle.rules.specs.Steps.{Stepped, stepOf}
-use Rattle.rules.specs.Statements.{Outcome, Typed}
+use Rattle.rules.specs.Steps.{Sides, stepOf}
 use Rattle.lent.specs.declared.steps.Step.{Step}
 use Rattle.lent.specs.Lent.{asked}
-use Rattle.step.specs.Answers.{held, refusal, stepped, answerTo, wordsLeft}
+use Rattle.lent.specs.Refusals.{Begun}
+use Rattle.step.specs.Alike.{Alike}
+use Rattle.step.specs.Calls as C
+use Rattle.step.specs.Calls.{Done, Refused, Work}
+use Rattle.step.specs.Runs.{runFrom, andThen, runAnswer, leftAfter, rightAfter}
+use Rattle.step.specs.Derivations.{Accepted, Decision, Kept}
 
--- ---- one call
--- 01: "Side is 0, .. step is 1 from 20 on and for a good step", at is "its place" from 20 on and else 0, the length is that of the term left; the slice holds
--- "the term or its result with zeros behind", 4,096 words in all
-pub record Done (ds ws : List ℕ) (n : ℕ) (s : Step) (r : Stepped) : Type 0 where
-  pub answer : answerTo ds ws n s ≡ stepped (s .place) r
-  pub slice : wordsLeft ds ws n s ≡ held (r .tree)
-
+-- ---- the single step
 -- 01: "stepping relies only on what typing promises": on a typed term the call does the step of the rules, whatever stands behind the term
 abbrev pub Entry : Type 0
 Entry = (ds ws : List ℕ) (n : ℕ) (t : Tree) (S : Sort) → TypedTerm ds ws n t S → (s : Step) → Done ds ws n s (stepOf (contextIn ds) t (asked s))
 
--- 01: "They test 1; 7 for bad declarations; 8, also for a length that is not the term's; 10; 11", as typing does; "1 .. slices untouched", "The step leaves only
--- zeros after 7 to 11"
-pub record Refused (ds ws : List ℕ) (n : ℕ) (s : Step) : Type 0 where
-  pub answer : answerTo ds ws n s ≡ refusal (typingOf ds ws n .code) (typingOf ds ws n .at)
-  pub untouched : typingOf ds ws n .code ≡ 1 → wordsLeft ds ws n s ≡ ws
-  pub zeros : typingOf ds ws n .code ≢ 1 → wordsLeft ds ws n s ≡ replicate (length ws) 0
-
+-- where typing refuses, the step is refused as typing does
 abbrev pub Refusals : Type 0
 Refusals = (ds ws : List ℕ) (n : ℕ) → typingOf ds ws n .code ≢ 0 → (s : Step) → Refused ds ws n s
-
--- ---- a list of calls
--- 01: "one work slice and a length"
-pub record Work : Type 0 where
-  pub slice : List ℕ
-  pub length : ℕ
-
--- a term "with zeros behind", and its length
-abbrev pub holding : Tree → Work
-holding t = record { slice = held t; length = length (words t) }
-
--- 01: "Each later step gets the first one's declarations and the slice and length that the step before it left; nobody else writes them meanwhile"
-abbrev pub after : List ℕ → Work → Step → Work
-after ds w s = record { slice = wordsLeft ds (w .slice) (w .length) s; length = answerTo ds (w .slice) (w .length) s .length }
-
-unfoldable pub afterAll : List ℕ → Work → List Step → Work
-afterAll ds w [] = w
-afterAll ds w (s ∷ ss) = afterAll ds (after ds w s) ss
-
--- what calls that end with the term u are to leave: the work as it was where there are none
-abbrev pub leaving : Work → List Step → Tree → Work
-leaving w [] u = w
-leaving w (s ∷ ss) u = holding u
-
--- Demand 3: "each step is answered and done as document 01 fixes", call by call from the term t to the term u. `Outcome` has the codes 0 and 20 to 23, with what
--- each of them says of the step
-pub data Course (ds : List ℕ) : Work → Tree → List Step → Tree → Type 0 where
-  ended : {w : Work} {t : Tree} → Course ds w t [] t
-  called : {w : Work} {t u : Tree} {s : Step} {ss : List Step} {r : Stepped}
-      → Outcome (contextIn ds) t (asked s) (r .code) (r .tree) → Done ds (w .slice) (w .length) s r
-      → Course ds (after ds w s) (r .tree) ss u → Course ds w t (s ∷ ss) u
-
--- Demand 3: "that term and the one left after the list are alike in the same way", in shape and in the number at each row and column. 01: "Both terms are read
--- under the same choice". The numbers may be of any star semiring; `numbers` says it once more of the Gaussian integers, and `shapes` that both have the shape of the type
-pub record Kept (ds : List ℕ) (w : Work) (t : Tree) (S : Sort) (ss : List Step) (u : Tree) : Type 1 where
-  pub course : Course ds w t ss u
-  pub left : afterAll ds w ss ≡ leaving w ss u
-  pub typed : Typed (contextIn ds) S u
-  pub same : (R : Type 0) (𝓐 : Arithmetic R) → StarSemiring 𝓐 → (χ : Choice R) → Fits 𝓐 (contextIn ds) χ → Same S (stands 𝓐 (contextIn ds) χ t) (stands 𝓐 (contextIn ds) χ u)
-  pub numbers : (χ : Choice Gaussian) → Fits gaussian (contextIn ds) χ → EqualNumbers (mean gaussian (contextIn ds) χ t) (mean gaussian (contextIn ds) χ u)
-  pub shapes : (χ : Choice Gaussian) → Fits gaussian (contextIn ds) χ
-      → Shaped gaussian χ S (mean gaussian (contextIn ds) χ t) × Shaped gaussian χ S (mean gaussian (contextIn ds) χ u)
 
 -- 01: "one claim about the whole list, not one for each step. A list begins with a typed term, one that none of 7, 8, 10 and 11 refuses, in a slice of 4,096
 -- words with any words behind". Demand 3: "any rules, places and indices, refused ones included"
 abbrev pub Lists : Type 1
 Lists =
-    (ds : List ℕ) (w : Work) (t : Tree) (S : Sort) → TypedTerm ds (w .slice) (w .length) t S → (ss : List Step) → (u : Tree) × Kept ds w t S ss u
+    (ds : List ℕ) (w : Work) (t : Tree) (S : Sort) → TypedTerm ds (w .slice) (w .length) t S → (ss : List Step) → (u : Tree) × C.Kept ds w t S ss u
+
+-- ---- the run
+-- Demand 2: accepted "exactly when"
+abbrev pub Accepts : Type 0
+Accepts =
+    (ds left : List ℕ) (n : ℕ) (right : List ℕ) (m : ℕ) (steps : List ℕ) (count : ℕ)
+    → (runAnswer ds left n right m steps count .code ≡ 0) ↔ Accepted ds left n right m steps count
+
+-- "Otherwise the first fault in document 01's order is named": every answer, with what it says and the two slices that it leaves
+abbrev pub Decides : Type 0
+Decides =
+    (ds left : List ℕ) (n : ℕ) (right : List ℕ) (m : ℕ) (steps : List ℕ) (count : ℕ)
+    → Decision ds left n right m steps count (runAnswer ds left n right m steps count) (leftAfter ds left n right m steps count) (rightAfter ds left n right m steps count)
+
+-- each side through every run that begins
+abbrev pub Keeps : Type 1
+Keeps =
+    (ds left : List ℕ) (n : ℕ) (right : List ℕ) (m : ℕ) (steps : List ℕ) (count : ℕ) (p : Sides) (S : Sort)
+    → Begun ds left n right m steps count p S → (q : Sides) × Kept ds left n right m steps count p S q
+
+-- Demand 3: accepted, "the number at each row and column of the matrix that the left term in it stands for equals the number there for the right term in it"
+abbrev pub Proves : Type 1
+Proves =
+    (ds left : List ℕ) (n : ℕ) (right : List ℕ) (m : ℕ) (steps : List ℕ) (count : ℕ) (a : Accepted ds left n right m steps count)
+    → Alike (contextIn ds) (a .sort) (a .start .left) (a .start .right)
+
+-- the steps from the k-th on, m of them and then a more, are m + a of them at once
+abbrev pub Pieces : Type 0
+Pieces =
+    (Γ : Context) (p : Sides) (steps : List ℕ) (k m a : ℕ)
+    → runFrom Γ p steps k (k + m + a) ≡ andThen (runFrom Γ p steps k (k + m)) (λ q. runFrom Γ q steps (k + m) (k + m + a))

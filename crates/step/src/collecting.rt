@@ -2,11 +2,13 @@
 use crate::children::Child;
 use crate::children::child_at;
 use crate::writing::Rewritten;
-use crate::writing::append_run;
-use crate::writing::append_word;
 use crate::writing::refused;
+use term::heads::SCALAR_ONE;
+use term::heads::SCALING;
 use term::parts::part_end;
 use words::append;
+use words::append_run;
+use words::append_word;
 use words::same;
 ghost use mathlib.Core.Path.{_≡_};
 ghost use mathlib.Core.Bool.{false, cond};
@@ -18,7 +20,12 @@ ghost use Rattle.words.specs.Words.{sameWords, Added};
 ghost use Rattle.term.specs.Parts.{Whole, part};
 ghost use Rattle.step.specs.Code.Families.{Collects};
 
-// Where the X of a summand begins: where the summand does if it is to be plain, behind its factor if it is to be a.X, whose word is 19:0. No X begins at
+// The head of what is collected from, and the word of the sum that the two factors make: 20, and 7:2.
+const SUM: u16 = 20;
+
+const SUM_OF_TWO: u16 = 0x0702;
+
+// Where the X of a summand begins: where the summand does if it is to be plain, behind its factor if it is to be a.X, whose word is `SCALING`. No X begins at
 // 0, the answer where it is not of that form.
 fn x_of(ws: &[u16], start: usize, scaled: u16) -> usize
     requires { ⌜ start < length (now ws) ⌝ }
@@ -27,7 +34,7 @@ fn x_of(ws: &[u16], start: usize, scaled: u16) -> usize
     if scaled == 0 {
         return start;
     }
-    if ws[start] != 4864 {
+    if ws[start] != SCALING {
         return 0;
     }
     part_end(ws, start + 1)
@@ -76,12 +83,12 @@ fn append_others(
     append_run(out, c, ws, second.end, ws.len())
 }
 
-// The sum of the factors `c` and `d` over `x`: 19:0 and 7:2 are the words of its heads.
+// The sum of the factors `c` and `d` over `x`.
 fn append_multiple(out: &mut [u16], at: usize, c: &[u16], d: &[u16], x: &[u16]) -> usize
     ensures { λ r. ⌜ Added (now (out .entry)) at (4864 ∷ (1794 ∷ (now (c .entry) ++ (now (d .entry) ++ now (x .entry))))) (now (out .exit)) r ⌝ }
 {
-    let scale = append_word(out, at, 4864);
-    let sum = append_word(out, scale, 1794);
+    let scale = append_word(out, at, SCALING);
+    let sum = append_word(out, scale, SUM_OF_TWO);
     let one = append(out, sum, c);
     let both = append(out, one, d);
     append(out, both, x)
@@ -100,7 +107,7 @@ pub fn collect(
     requires { ⌜ Whole (now ws) ⌝ }
     ensures { λ r. ⌜ Collects (now (ws .entry)) (now (out .entry)) at (now (out .exit)) r u v i j ⌝ }
 {
-    if ws[0] / 256 != 20 || j <= i {
+    if ws[0] / 256 != SUM || j <= i {
         return refused(22);
     }
     let second = child_at(ws, j);
@@ -114,8 +121,7 @@ pub fn collect(
     if !same_x(ws, x, end, y, second.end) {
         return refused(22);
     }
-    // 6:0
-    let one = [1536];
+    let one = [SCALAR_ONE];
     let c = factor(ws, &one, first.start, x);
     let d = factor(ws, &one, second.start, y);
     let kept = append_others(out, at, ws[0] - 1, ws, first, second);

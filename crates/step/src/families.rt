@@ -2,11 +2,13 @@
 // behind the first `at` words of `out`. Heads are given by their numbers.
 use crate::children::child_at;
 use crate::writing::Rewritten;
-use crate::writing::append_run;
 use crate::writing::append_without;
-use crate::writing::append_word;
 use crate::writing::refused;
+use term::heads::SCALAR_ZERO;
 use term::parts::part_end;
+use typebook::is_sum;
+use words::append_run;
+use words::append_word;
 ghost use mathlib.Core.Path.{_≡_};
 ghost use mathlib.Core.Bool.{true, false};
 ghost use lib.ListN.{length};
@@ -44,12 +46,15 @@ pub fn remove(
     Rewritten { code: 0, end: done }
 }
 
+// The head of a product of scalars.
+const PRODUCT: u16 = 8;
+
 // 5: child `i` is 0, and so is the product.
 pub fn absorb(ws: &[u16], i: usize, out: &mut [u16], at: usize) -> Rewritten
     requires { ⌜ Whole (now ws) ⌝ }
     ensures { λ r. ⌜ Absorbs (now (ws .entry)) (now (out .entry)) at (now (out .exit)) r i ⌝ }
 {
-    if ws[0] / 256 != 8 {
+    if ws[0] / 256 != PRODUCT {
         return refused(22);
     }
     let c = child_at(ws, i);
@@ -57,19 +62,18 @@ pub fn absorb(ws: &[u16], i: usize, out: &mut [u16], at: usize) -> Rewritten
         return refused(22);
     }
     let start = c.start;
-    if ws[start] != 1280 {
+    if ws[start] != SCALAR_ZERO {
         return refused(22);
     }
-    let done = append_word(out, at, 1280);
+    let done = append_word(out, at, SCALAR_ZERO);
     Rewritten { code: 0, end: done }
 }
 
-// Whether a word's head has any number of children in any order: 7, 8 or 20.
-pub fn is_chain(word: u16) -> bool
+// Whether a word's head has any number of children in any order, as the typing rules have it of sums and products of many.
+fn is_chain(word: u16) -> bool
     ensures { λ r. ⌜ r ≡ chainWord word ⌝ }
 {
-    let head = word / 256;
-    head == 7 || head == 8 || head == 20
+    is_sum((word / 256) as usize)
 }
 
 // 1: child `i`, of the parent's own head, is merged into it: its head's word goes, and the parent's counts its children too.

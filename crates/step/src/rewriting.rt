@@ -11,6 +11,8 @@ use crate::writing::refused;
 use rulebook::Row;
 ghost use mathlib.Core.Path.{_≡_};
 ghost use mathlib.Core.Logic.{_≢_};
+ghost use lib.ListN.{length};
+ghost use Rattle.term.specs.Trees.{words};
 ghost use Rattle.term.specs.Parts.{Whole};
 ghost use Rattle.declarations.specs.Declarations.{contextIn};
 ghost use Rattle.rules.specs.Table.{Rule};
@@ -54,24 +56,23 @@ fn apply_family(ws: &[u16], row: Row, i: usize, out: &mut [u16]) -> Rewritten
     swap(ws, i, out, 0)
 }
 
-// What the rule of a row makes of the part of a term from `place` up to `end`.
+// What the rule of a row makes of the part with which the words begin, of which it is the first `end`.
 pub fn rewrite_part(
     ds: &[u16],
-    term: &[u16],
-    place: usize,
+    ws: &[u16],
     end: usize,
     row: Row,
     i: usize,
     j: usize,
     out: &mut [u16],
 ) -> Rewritten
-    requires { ⌜ Site (now ds) (now term) place end × ((rule : Rule) × Lined row rule) ⌝ }
-    ensures { λ r. ⌜ ((s : Site (now (ds .entry)) (now (term .entry)) place end) (rule : Rule) → Lined row rule → Writes (rewrite (contextIn (now (ds .entry))) rule i j (s .tree)) (now (out .entry)) 0 (now (out .exit)) r) ⌝ }
+    requires { ⌜ ((s : Site (now ds) (now ws)) × (end ≡ length (words (s .tree)))) × ((rule : Rule) × Lined row rule) ⌝ }
+    ensures { λ r. ⌜ ((s : Site (now (ds .entry)) (now (ws .entry))) (rule : Rule) → end ≡ length (words (s .tree)) → Lined row rule → Writes (rewrite (contextIn (now (ds .entry))) rule i j (s .tree)) (now (out .entry)) 0 (now (out .exit)) r) ⌝ }
 {
     if row.family == 1 {
-        return equate(ds, term, place, end, row, i, j, out);
+        return equate(ds, ws, row, i, j, out);
     }
-    let part = &term[place..end];
+    let part = &ws[..end];
     if row.family == 6 {
         return collect(part, row.a, row.b, i, j, out, 0);
     }

@@ -1,10 +1,10 @@
 // Spreading: a head over a sum becomes the sum of that head over each of the summands.
 use crate::children::child_at;
 use crate::writing::Rewritten;
-use crate::writing::append_run;
-use crate::writing::append_word;
 use crate::writing::refused;
 use term::parts::part_end;
+use words::append_run;
+use words::append_word;
 ghost use mathlib.Core.Path.{_≡_};
 ghost use mathlib.Core.List.{_++_};
 ghost use Prim.Native.Nat.{_-_, _≤_, _<_};

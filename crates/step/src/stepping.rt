@@ -81,12 +81,13 @@ fn make(ds: &[u16], term: &[u16], s: Step, out: &mut [u16]) -> Rewritten
     if term.len() <= place {
         return refused(21);
     }
-    let end = part_end(term, place);
-    let made = rewrite_part(ds, term, place, end, row, s.i as usize, s.j as usize, out);
+    let ws = &term[place..];
+    let end = part_end(ws, 0);
+    let made = rewrite_part(ds, ws, end, row, s.i as usize, s.j as usize, out);
     if made.code != 0 {
         return made;
     }
-    finish(term, place, end, made.end, out)
+    finish(term, place, place + end, made.end, out)
 }
 
 // Puts the words of a result from the place on into their slice, which had zeros behind its first `old` words, and zeros behind them.

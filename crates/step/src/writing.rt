@@ -1,7 +1,8 @@
 // Writing a result apart, run by run.
-use words::append;
+use words::append_run;
+use words::append_word;
 ghost use mathlib.Core.Path.{_≡_};
-ghost use mathlib.Core.List.{[], _∷_, _++_};
+ghost use mathlib.Core.List.{_∷_, _++_};
 ghost use Prim.Native.Nat.{_-_, _≤_};
 ghost use lib.ListN.{length, take, drop};
 ghost use Rattle.words.specs.Words.{Added};
@@ -16,22 +17,6 @@ pub fn refused(code: usize) -> Rewritten
     ensures { λ r. ⌜ (r .code ≡ code) × (r .end ≡ 0) ⌝ }
 {
     Rewritten { code, end: 0 }
-}
-
-// One word behind those that stand there.
-pub fn append_word(out: &mut [u16], at: usize, word: u16) -> usize
-    ensures { λ r. ⌜ Added (now (out .entry)) at (word ∷ []) (now (out .exit)) r ⌝ }
-{
-    let run = [word];
-    append(out, at, &run)
-}
-
-// The words of `ws` from `from` up to `to` behind those that stand there.
-pub fn append_run(out: &mut [u16], at: usize, ws: &[u16], from: usize, to: usize) -> usize
-    requires { ⌜ (from ≤ to) × (to ≤ length (now ws)) ⌝ }
-    ensures { λ r. ⌜ Added (now (out .entry)) at (take (to - from) (drop from (now (ws .entry)))) (now (out .exit)) r ⌝ }
-{
-    append(out, at, &ws[from..to])
 }
 
 // A head and then the children of `ws` without its words from `start` up to `from`.

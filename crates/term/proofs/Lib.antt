@@ -8,5 +8,6 @@ pub mod Names
 pub mod TermTest
 pub mod Comparing
 pub mod Places
+pub mod Theorems
 mod Levels
 mod Examples

@@ -1,9 +1,9 @@
 -- The row of whole parts against the words of trees: each undoes the other.
 use mathlib.Core.Path.{_≡_, refl, sym, _∙_, ap}
-use mathlib.Core.List.{List, [], _∷_, _++_, append-assoc, append-nil, tail-eq-of-cons-eq, nil≢cons}
+use mathlib.Core.List.{List, [], _∷_, _++_, append-assoc, append-nil}
 use Prim.Native.Nat.{ℕ, zero, suc, _+_, _<_}
 use native.Mathlib.Omega.{arith}
-use lib.ListN.{length, drop}
+use lib.ListN.{length}
 use Rattle.term.specs.Heads.{Label, word, Reading, unread, labelled, read}
 use Rattle.term.specs.Trees.{Tree, Forest, node, none, _▹_, count, _⧺_, words, words*, Formed, Formed*}
 use Rattle.term.specs.Parts.{Cut, short, cut, behind, chop, plant, grow, parse}
@@ -120,30 +120,15 @@ unfolding words Formed parse
 accepted [] = record { rest = []; whole = refl; stops = refl; formed = tt }
 accepted (w ∷ ws) = accepted-more refl (accepted ws) (grown w ws)
 
--- a run of words that is a row to its end
-abbrev pub Parsed : List ℕ → Type 0
-Parsed ws = words* (parse ws) ≡ ws
-
+-- a row's own words are that row
 pub parse-all : (f : Forest) → Formed* f → parse (words* f) ≡ f
 unfolding parse
 parse-all f h = cc (parse-words* f h [], append-nil (words* f), ⧺-none f)
-
-parsed-tail : {w : ℕ} {ws : List ℕ} {f g : Forest} → words* g ≡ w ∷ ws → Grown w f g → words* f ≡ ws
-unfolding words
-parsed-tail e (unread-word h) = absurd (nil≢cons e)
-parsed-tail e (words-short l n h k) = absurd (nil≢cons e)
-parsed-tail e (planted l a b h k) = cc (words*-⧺ a b, tail-eq-of-cons-eq e)
 
 -- a tree's own words are a row of that one tree
 pub parse-tree : (t : Tree) → Formed t → parse (words t) ≡ t ▹ none
 unfolding parse
 parse-tree t h = rw append-nil at (parse-words t h [])
-
--- each suffix of such a run is one too: every offset inside a term begins a part
-pub parsed-suffix : (k : ℕ) (ws : List ℕ) → Parsed ws → Parsed (drop k ws)
-parsed-suffix zero ws h = h
-parsed-suffix (suc k) [] h = h
-parsed-suffix (suc k) (w ∷ ws) h = parsed-suffix k ws (parsed-tail h (grown w ws))
 
 -- a whole part is no proper prefix of another
 pub prefix-free : (t u : Tree) → Formed t → Formed u → (r s : List ℕ) → words t ++ r ≡ words u ++ s → t ≡ u

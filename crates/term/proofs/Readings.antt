@@ -7,6 +7,7 @@ use native.Mathlib.Nat.{div-add-mod', zero-add}
 use native.Mathlib.Omega.{arith}
 use lib.Dec.{T, leb, leb→le, eqb·suc-zero}
 use lib.ListN.{length, getD}
+use Rattle.term.specs.declared.heads.Class.{Class}
 use Rattle.term.specs.Heads.{Label, Head, unknown, named, fixed, counted, heads, word, unread, labelled, reading, read}
 
 -- the labels of line k are written with head k
@@ -50,10 +51,14 @@ word-of k (fixed f c cs) x (suc a) l n e = let e′ : unread ≡ labelled l n = 
 word-of k (counted f c c′) x zero l n e = cc
 word-of k (counted f c c′) x (suc a) l n e = let e′ : labelled f (suc a) ≡ labelled l n = rw eqb·suc-zero at e in cc (x (suc a))
 
+-- the labels of a line are written with its number
+numbered-at : (k : ℕ) → Numbered k (getD heads k unknown)
+numbered-at k = rw zero-add at (every-at Numbered (λ k. tt) heads 0 numbered k)
+
 -- what a word reads as is what it is written for
 pub word-read : (w : ℕ) (l : Label) (n : ℕ) → read w ≡ labelled l n → word l n ≡ w
 unfolding read
-word-read w l n e = word-of (w / 256) (getD heads (w / 256) unknown) (rw zero-add at (every-at Numbered (λ k. tt) heads 0 numbered (w / 256))) (w % 256) l n e ∙ div-add-mod' w 256
+word-read w l n e = word-of (w / 256) (getD heads (w / 256) unknown) (numbered-at (w / 256)) (w % 256) l n e ∙ div-add-mod' w 256
 
 -- a head's line tells what its words read as
 pub read-at : (k a : ℕ) → a < 256 → read (k * 256 + a) ≡ reading (getD heads k unknown) a
@@ -62,6 +67,25 @@ read-at k a h =
     let q : (k * 256 + a) / 256 ≡ k = omega arith in
     let r : (k * 256 + a) % 256 ≡ a = omega arith in
     rw (q, r)
+
+-- what is written for a label of a line is read as it
+module _ (k : ℕ) where
+  line-word : (h : Head) → getD heads k unknown ≡ h → Numbered k h
+  line-word h e = rw e at (numbered-at k)
+
+  pub named-read : (a : ℕ) (l : ℕ → Label) (c : Class) → getD heads k unknown ≡ named l c → a < 256 → read (word (l a) 0) ≡ labelled (l a) 0
+  unfolding reading
+  named-read a l c e h = rw (line-word (named l c) e a, read-at k a h, e)
+
+  pub fixed-read : (l : Label) (c : Class) (cs : List Class) → getD heads k unknown ≡ fixed l c cs → read (word l (length cs)) ≡ labelled l (length cs)
+  unfolding reading
+  fixed-read l c cs e =
+      let z : k * 256 ≡ k * 256 + 0 = omega arith in
+      rw (line-word (fixed l c cs) e ∙ z, read-at k 0 (omega arith), e)
+
+  pub counted-read : (n : ℕ) (l : Label) (c c′ : Class) → getD heads k unknown ≡ counted l c c′ → 1 ≤ n → n ≤ 255 → read (word l n) ≡ labelled l n
+  unfolding reading
+  counted-read (suc n) l c c′ e some few = rw (line-word (counted l c c′) e (suc n), read-at k (suc n) (omega arith), e, eqb·suc-zero)
 
 -- ---- a test that every line of the table passes
 both : (a b : Bool) → T (a && b) → T a × T b

@@ -1,8 +1,8 @@
--- The test of a term, one condition after the other, and what it tells: the words are those of a tree that is a term, and of no other.
+-- The test of a term, one condition after the other, and what it tells: the words are those of a tree that is a term.
 use mathlib.Core.Path.{_≡_, refl, sym, _∙_, ap}
 use mathlib.Core.Bool.{Bool, true, false, _&&_, and-eq-true-iff}
 use mathlib.Core.Logic.{_≢_}
-use mathlib.Core.List.{List, [], _++_}
+use mathlib.Core.List.{List}
 use Prim.Native.Nat.{ℕ, _≤_, _<_}
 use native.Mathlib.Omega.{arith}
 use borrow.Author.Tests.{lt-ltb, le-ltb, le-leb, lt-leb, eq-eqb, ne-eqb, ltb-true, leb-true, eqb-true}
@@ -13,7 +13,7 @@ use Rattle.term.specs.declared.terms.Names.{Names}
 use Rattle.term.specs.Trees.{Tree, Forest, none, _▹_, words, Formed, Formed*, depth}
 use Rattle.term.specs.Parts.{parse, first, part}
 use Rattle.term.specs.Terms.{maxWords, maxDepth, firstDepth, partDepth, allDeclared, IsTerm, termWords, isTerm}
-use Rattle.term.proofs.Parsing.{accepted, some-words, parse-tree, prefix-free}
+use Rattle.term.proofs.Parsing.{accepted, some-words, parse-tree}
 use Rattle.term.proofs.Scan.{part-front}
 
 -- ---- a slice that holds so many words is tested by those words
@@ -92,7 +92,3 @@ term-tree N ws e =
         named = rw (t .1) (a .4);
       },
     )
-
--- a term has one reading: no other tree has its words
-pub term-unique : (N : Names) (t u : Tree) → IsTerm N t → IsTerm N u → words t ≡ words u → t ≡ u
-term-unique N t u h k e = prefix-free t u (h .formed) (k .formed) [] [] (ap (λ (ws : List ℕ). ws ++ []) e)

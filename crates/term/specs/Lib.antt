@@ -3,4 +3,5 @@ pub mod Heads
 pub mod Trees
 pub mod Parts
 pub mod Terms
+pub mod Statements
 pub mod Code

@@ -1,4 +1,5 @@
--- Parts of a run of words, and what a lookup hands back.
+-- Parts of a run of words as functions for the code to equal, and what a lookup hands back. What to believe of a part is `Whole`; `WholePart` and `EmptyPart` of `Statements` say that
+-- `part` answers so.
 use mathlib.Core.Path.{_≡_}
 use mathlib.Core.List.{List, [], _∷_}
 use Prim.Native.Nat.{ℕ, zero, suc, _+_, _*_}

@@ -77,7 +77,8 @@ pub record IsTerm (N : Names) (t : Tree) : Type 0 where
   pub shallow : depth t ≤ maxDepth
   pub named : allDeclared N (words t) ≡ true
 
--- What a term is, of words: they are one whole part to their end, within the limits and with declared names
+-- What a term is, of words, as a test for the code to equal: they are one whole part to their end, within the limits and with declared names. What to believe is `IsTerm`;
+-- `TermTest` of `Statements` says that the test passes exactly a term's words
 unfoldable pub termWords : Names → List ℕ → Bool
 unfolding part partDepth allDeclared
 termWords N ws =

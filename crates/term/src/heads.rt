@@ -55,6 +55,15 @@ const HEADS: [u16; 27] = [
     0x1800, // 26:a variable
 ];
 
+// The words of heads that the code writes or looks for by name.
+pub const INDEX_PRODUCT: u16 = 0x0200; // 2
+
+pub const SCALAR_ZERO: u16 = 0x0500; // 5
+
+pub const SCALAR_ONE: u16 = 0x0600; // 6
+
+pub const SCALING: u16 = 0x1300; // 19
+
 // The line of a head, and line 0 for a number that is no head's.
 fn line_of(head: usize) -> u16
     ensures { λ r. ⌜ r ≡ lineAt head ⌝ }

@@ -1,4 +1,5 @@
--- Document 01, "The file": "Numbers are decimal without leading zeros".
+-- Decimal numbers, read by a function for the code to equal, and written. What to believe is `decimal`; `Decimals` of the proofs shows that each undoes the other. Document 01, "The file":
+-- "Numbers are decimal without leading zeros".
 use mathlib.Core.Bool.{Bool, true, false, cond, _&&_, not}
 use mathlib.Core.List.{List, [], _∷_, _++_}
 use mathlib.Core.Option.{Option, some, none}

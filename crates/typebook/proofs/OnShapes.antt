@@ -11,8 +11,8 @@ use Rattle.term.specs.declared.heads.Class.{Class}
 use Rattle.term.specs.declared.heads.Class.the-variants.{Index, Basis, Scalar, Ket, Bra, Operator, Array}
 use Rattle.term.specs.Heads.{adjoint, tensor, word, childOf}
 use Rattle.term.specs.Trees.{Tree, node, count, words}
-use Rattle.typebook.specs.Shapes.{Shape, shape, shapeOf, numberOf, fitting, given}
-use Rattle.typebook.specs.Lines.{concluded, rules, ruleAt, alikeTo, allAlike, met, secondFits, fitted, classBy, pairOf, sideOf, shortBoth, shaped, byLine, childrenOf}
+use Rattle.typebook.specs.Code.Shapes.{Shape, shape, shapeOf, numberOf, fitting, given}
+use Rattle.typebook.specs.Code.Lines.{concluded, rules, ruleAt, alikeTo, allAlike, met, secondFits, fitted, classBy, pairOf, sideOf, shortBoth, shaped, byLine, childrenOf}
 use Rattle.types.specs.Rules.{IsType}
 use Rattle.types.specs.Sorts.{Sort, index, basis, scalar, ket, bra, operator, Context, _⊠_}
 use Rattle.types.specs.TypeOf.{Conclusion, fails, gives, same, short, toIndex, toBasis, toScalar, toKet, toBra, toOperator, arrayOf, agree, andThen, agreeAll, scalarsOf, sumOf, conclude}

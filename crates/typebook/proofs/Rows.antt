@@ -11,8 +11,8 @@ use Rattle.term.specs.declared.heads.Class.the-variants.{Index, Basis}
 use Rattle.words.specs.Words.{sameWords}
 use Rattle.term.specs.Heads.{Label, Head, unknown, named, fixed, counted, heads, unread, labelled, reading, read, resultOf, childOf, index-product, pair, scalar-zero, scalar-one, conjugate, delta, dot, zero-ket, zero-bra, zero-operator, identity, basis-ket, basis-bra, adjoint, scale, tensor, mulk, mulb, outer, mulo}
 use Rattle.term.proofs.Readings.{Every, every-at, _⨾_}
-use Rattle.typebook.specs.Shapes.{shapeOf}
-use Rattle.typebook.specs.Lines.{concluded, rules, ruleAt, allAlike, met, isSum, classBy, pairOf, sideOf, shortBoth, shaped, byLine, childrenOf}
+use Rattle.typebook.specs.Code.Shapes.{shapeOf}
+use Rattle.typebook.specs.Code.Lines.{concluded, rules, ruleAt, allAlike, met, isSum, classBy, pairOf, sideOf, shortBoth, shaped, byLine, childrenOf}
 use Rattle.types.specs.Sorts.{Sort, index, basis, Context}
 use Rattle.types.specs.TypeOf.{conclude}
 use Rattle.typebook.proofs.OnShapes.{shapes, ruled, ruled-is, on-index, on-basis, on-ket, on-bra, on-operator, on-scalar, on-same, on-array, left-product, one-adjoint, two-tensor, scalars-law, sum-law}

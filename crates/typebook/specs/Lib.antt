@@ -1,3 +1,2 @@
--- The typing rules as a table.
-pub mod Shapes
-pub mod Lines
+-- The typing rules as a table. What to believe is `_⊢_∶_` of `types` Rules.
+pub mod Code

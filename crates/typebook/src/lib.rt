@@ -3,8 +3,8 @@ use term::heads::Class;
 use term::heads::child_class;
 use term::heads::result_class;
 ghost use mathlib.Core.Path.{_≡_};
-ghost use Rattle.typebook.specs.Shapes.{numberOf, fitting};
-ghost use Rattle.typebook.specs.Lines.{ruleAt, isSum, fitted, turned, classBy};
+ghost use Rattle.typebook.specs.Code.Shapes.{numberOf, fitting};
+ghost use Rattle.typebook.specs.Code.Lines.{ruleAt, isSum, fitted, turned, classBy};
 
 // A line a head, four hexadecimal digits.
 // What is asked of the children beside their classes: 0 nothing; 1 one index; 2 the first's columns are the second's rows; 3 all are alike; 4 nothing, and their indices are

@@ -5,3 +5,4 @@ pub mod Sound
 pub mod Replace
 pub mod Place
 pub mod Walk
+pub mod Theorems

@@ -1,12 +1,10 @@
 -- Under declarations in order, every sort that the rules derive has indices that are indices of the context, formed and short.
-use mathlib.Core.Path.{_≡_, refl, ap}
-use mathlib.Core.List.{List, [], _++_}
-use Prim.Native.Nat.{ℕ}
+use mathlib.Core.Path.{_≡_, refl}
 use native.Mathlib.Omega.{arith}
 use Rattle.term.specs.Heads.{heads, reading, word}
 use Rattle.term.specs.Trees.{Tree, count, words, Formed}
-use Rattle.term.proofs.Parsing.{prefix-free}
 use Rattle.term.proofs.Readings.{read-at}
+use Rattle.term.proofs.Theorems.{one-reading}
 use Rattle.types.specs.Sorts.{Sort, index, Context, Short}
 use Rattle.types.specs.Rules.{_⊢_∶_, type-var, basis-var, term-var, sca-0, sca-1, sca-delta, sca-add, sca-mul, sca-conj, sca-dot, base-prod, pair-base, ket-0, ket-base, ket-adj, ket-scr, ket-add, ket-mulk, ket-tsr, bra-0, bra-base, bra-adj, bra-scr, bra-add, bra-mulb, bra-tsr, opt-0, opt-1, opt-adj, opt-scr, opt-add, opt-outer, opt-mulo, opt-tsr, Index, Proper, WellFormed}
 
@@ -68,4 +66,4 @@ module _ {Γ : Context} (W : WellFormed Γ) where
 
   -- two indices of the context with the same words are the same
   pub same-index : {σ τ : Tree} → Index Γ σ → Index Γ τ → words σ ≡ words τ → σ ≡ τ
-  same-index {σ} {τ} a b e = prefix-free σ τ (index-formed a) (index-formed b) [] [] (ap (λ (ws : List ℕ). ws ++ []) e)
+  same-index {σ} {τ} a b e = one-reading σ τ (index-formed a) (index-formed b) e

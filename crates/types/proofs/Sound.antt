@@ -422,6 +422,7 @@ module _ {Γ : Context} (W : WellFormed Γ) where
   pub record Node (l : Label) (cs : Forest) (S : Sort) : Type 0 where
     pub list : List Sort
     pub each : Each Γ cs list
+    pub concludes : conclude Γ l list ≡ gives S
     pub again : (ds : Forest) → Each Γ ds list → Γ ⊢ node l ds ∶ S
 
   decide-typed : {S : Sort} (at : ℕ) (c : Conclusion) → decide at c ≡ typed S → c ≡ gives S
@@ -431,7 +432,7 @@ module _ {Γ : Context} (W : WellFormed Γ) where
 
   node-by : {l : Label} {cs : Forest} {S : Sort} {r : Children} (at : ℕ) → Answered* Γ cs r → close Γ at l r ≡ typed S → Node l cs S
   unfolding close
-  node-by at (have-sorts {ss} x) e = record { list = ss; each = x; again = λ ds y. derive W _ y (decide-typed at _ e) }
+  node-by at (have-sorts {ss} x) e = let c = decide-typed at _ e in record { list = ss; each = x; concludes = c; again = λ ds y. derive W _ y c }
   node-by at have-none e = absurd (let z : _≡_ {A = ℕ} 0 1 = cc in omega arith)
 
   pub node-of : {l : Label} {cs : Forest} {S : Sort} → Γ ⊢ node l cs ∶ S → Node l cs S

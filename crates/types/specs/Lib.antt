@@ -3,3 +3,4 @@ pub mod Sorts
 pub mod Rules
 pub mod TypeOf
 pub mod First
+pub mod Statements

@@ -7,8 +7,8 @@ use Prim.Native.Nat.{ℕ, _≤_, _<_}
 use lib.ListN.{length, getElem?}
 use Rattle.term.specs.Heads.{type-name, basis-name, variable, index-product, pair, scalar-zero, scalar-one, scalar-sum, scalar-product, conjugate, delta, dot, zero-ket, zero-bra, zero-operator, identity, basis-ket, basis-bra, adjoint, scale, add, tensor, mulk, mulb, outer, mulo}
 use Rattle.term.specs.Trees.{Tree, Forest, node, none, _▹_}
-use Rattle.term.specs.Terms.{maxNames}
-use Rattle.types.specs.Sorts.{Sort, index, basis, scalar, ket, bra, operator, Context, _⊠_, Short}
+use Rattle.term.specs.Terms.{maxNames, IsTerm}
+use Rattle.types.specs.Sorts.{Sort, index, basis, scalar, ket, bra, operator, Context, countsOf, _⊠_, Short}
 
 infix 3 _⊢_∶_
 infix 3 _⊢*_∶_
@@ -91,3 +91,8 @@ pub record WellFormed (Γ : Context) : Type 0 where
   pub variables : length (Γ .variables) ≤ maxNames
   pub basis-index : (a : ℕ) (σ : Tree) → getElem? (Γ .bases) a ≡ some σ → Index Γ σ
   pub variable-type : (a : ℕ) (S : Sort) → getElem? (Γ .variables) a ≡ some S → IsType S × Proper Γ S
+
+-- ---- a typed term of document 01's form
+pub record Typed (Γ : Context) (S : Sort) (t : Tree) : Type 0 where
+  pub rules : Γ ⊢ t ∶ S
+  pub form : IsTerm (countsOf Γ) t

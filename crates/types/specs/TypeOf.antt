@@ -1,4 +1,5 @@
--- The type of a term as a function, with the place of the first untyped part.
+-- The type of a term with the place of the first untyped part, as a function for the code to equal: the relations to believe are `_⊢_∶_` of `Rules` and `FirstUntyped` of `First`.
+-- `Sound`, `Complete` and `Places` of `Statements` say that the function answers as they say.
 use mathlib.Core.Bool.{cond}
 use mathlib.Core.Option.{Option, some, none as nothing}
 use mathlib.Core.List.{List, [], _∷_}

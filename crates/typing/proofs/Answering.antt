@@ -23,7 +23,7 @@ use Rattle.typing.specs.Answers.{pad, typeRecord, refuse, typing, answer
 use Rattle.declarations.specs.Declarations.{contextIn, namesIn, goodDeclarations}
 use Rattle.types.specs.Sorts.{Sort, index, basis, scalar, ket, bra, operator}
 use Rattle.types.specs.TypeOf.{typed, typeOf}
-use Rattle.typebook.specs.Shapes.{Shape, shapeOf, numberOf}
+use Rattle.typebook.specs.Code.Shapes.{Shape, shapeOf, numberOf}
 use Rattle.typing.specs.Code.Shapes.{shapeAt, Small}
 use Rattle.typing.specs.Code.Verdicts.{kindOf}
 use Rattle.typing.proofs.Lying.{run-length}

@@ -17,9 +17,9 @@ use Rattle.term.specs.declared.heads.Class.{Class}
 use Rattle.typing.specs.declared.sorts.Gathered as G
 use Rattle.typing.specs.declared.sorts.Plan as P
 use Rattle.typing.specs.declared.sorts.Run as R
-use Rattle.typebook.specs.Shapes.{Shape, shape, given}
+use Rattle.typebook.specs.Code.Shapes.{Shape, shape, given}
 use Rattle.typing.specs.Code.Shapes.{shapeAt, run, runAt, Inside, Small, Ready}
-use Rattle.typebook.specs.Lines.{ruleAt, pieceOf, pairOf, sideOf, shortBoth, fitted, met, classBy, shaped, byLine, childrenOf}
+use Rattle.typebook.specs.Code.Lines.{ruleAt, pieceOf, pairOf, sideOf, shortBoth, fitted, met, classBy, shaped, byLine, childrenOf}
 use Rattle.typing.specs.Code.Conclude.{placeOf, sideSize, product, leftAt, rightAt, rowsOf, columnsOf, planOf, standing, sidesOf, Laying, Concludes}
 use Rattle.typing.proofs.Lying.{run-length, run-both, above-refl, above-laid, shape-laid, laid-same}
 

@@ -21,7 +21,7 @@ use Rattle.types.specs.TypeOf.{typed, typeOf}
 use Rattle.typing.specs.declared.infer.Verdict as Answer
 use Rattle.typing.specs.declared.terms.Typing as A
 use Rattle.typing.specs.Answers.{refuse, answerOf, typingOf}
-use Rattle.typebook.specs.Shapes.{shapeOf}
+use Rattle.typebook.specs.Code.Shapes.{shapeOf}
 use Rattle.typing.specs.Code.Shapes.{shapeAt}
 use Rattle.typing.specs.Code.Verdicts.{Found, typingIn}
 use Rattle.typing.proofs.Lying.{shape-kept, length-overlaid, bottom-kept}

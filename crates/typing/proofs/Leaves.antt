@@ -13,8 +13,8 @@ use Rattle.term.specs.declared.heads.Class.the-variants.{Index, Basis, Term}
 use Rattle.term.specs.Heads.{Label, type-name, basis-name, variable, Head, unknown, named, fixed, counted, heads, unread, labelled, reading, read, word}
 use Rattle.term.specs.Trees.{words, count}
 use Rattle.term.proofs.Readings.{Every, every-at, _⨾_}
-use Rattle.typebook.specs.Shapes.{shapeOf, given}
-use Rattle.typebook.specs.Lines.{concluded}
+use Rattle.typebook.specs.Code.Shapes.{shapeOf, given}
+use Rattle.typebook.specs.Code.Lines.{concluded}
 use Rattle.typing.specs.Code.Verdicts.{leafOf}
 use Rattle.declarations.specs.Declarations.{contextIn, basisIn, variableIn}
 use Rattle.types.specs.Sorts.{Sort, basis}

@@ -12,7 +12,7 @@ use Rattle.words.specs.Words.{overlaid, sameWords, laid}
 use Rattle.words.proofs.Runs.{same-both, same-lengths, laid-in}
 use Rattle.term.specs.declared.heads.Class.{Class}
 use Rattle.typing.specs.declared.sorts.Sorted as S
-use Rattle.typebook.specs.Shapes.{shape}
+use Rattle.typebook.specs.Code.Shapes.{shape}
 use Rattle.typing.specs.Code.Shapes.{run, shapeAt, Small, Room, Above}
 
 -- ---- runs

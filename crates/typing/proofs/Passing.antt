@@ -19,9 +19,9 @@ use Rattle.types.specs.Sorts.{Sort, Context}
 use Rattle.types.specs.TypeOf.{Conclusion, fails, gives, conclude, typed, untyped, sorts, decide, close, typeOf, typesOf}
 use Rattle.typing.specs.declared.sorts.Outcome as O
 use Rattle.typing.specs.declared.infer.Verdict as Answer
-use Rattle.typebook.specs.Shapes.{Shape, given}
+use Rattle.typebook.specs.Code.Shapes.{Shape, given}
 use Rattle.typing.specs.Code.Shapes.{Above, Answers}
-use Rattle.typebook.specs.Lines.{concluded}
+use Rattle.typebook.specs.Code.Lines.{concluded}
 use Rattle.typing.specs.Code.Verdicts.{refusal, settlement, Unsettled, Found}
 use Rattle.typing.proofs.Lying.{above-trans, above-lower}
 use Rattle.types.proofs.Walk.{typed-at, untyped-at, types-more, types-fail, next-child}

@@ -16,7 +16,7 @@ use Rattle.declarations.specs.Declarations.{size, basisAt, variableAt, basisIn,
 use Rattle.declarations.proofs.Entries.{basisLen, kind, firstLen, secondLen, basis-good, basis-room, variable-good, variable-room, kind-0, kind-1, kind-2, kind-3}
 use Rattle.typing.specs.declared.sorts.Run as R
 use Rattle.typing.specs.declared.lookup.Entry as E
-use Rattle.typebook.specs.Shapes.{Shape, shape, shapeOf, given}
+use Rattle.typebook.specs.Code.Shapes.{Shape, shape, shapeOf, given}
 use Rattle.typing.specs.Code.Shapes.{shapeAt, runAt, Inside, Small, Room, plain, Answers}
 use Rattle.typing.specs.Code.Conclude.{runOf}
 use Rattle.typing.specs.Code.Verdicts.{sortedBy, bareEntry, basisEntry, variableEntry, entryOf, leafOf}

@@ -11,14 +11,14 @@ use Rattle.term.specs.Parts.{parse, treeIn}
 use Rattle.term.specs.Terms.{maxWords, partDepth, firstDepth, IsTerm, isTerm}
 use Rattle.term.specs.Trees.{Tree, none, _▹_, words, depth}
 use Rattle.term.proofs.Parsing.{parse-tree}
-use Rattle.term.proofs.TermTest.{term-in, tree-term}
+use Rattle.term.proofs.Theorems.{term-test}
 use Rattle.typing.specs.declared.terms.Typing as A
-use Rattle.typing.specs.Answers.{refuse, answerOf, typingOf, HeldTerm, TypedTerm}
+use Rattle.typing.specs.Answers.{refuse, answerOf, typingOf, HeldTerm, TypedTerm, Verdict, wrong-size, bad-declarations, no-term, no-sort, no-type, a-type}
 use Rattle.declarations.specs.Declarations.{contextIn, namesIn, goodDeclarations}
 use Rattle.types.specs.Rules.{_⊢_∶_, IsType}
 use Rattle.types.specs.Sorts.{Sort, index, basis, scalar, ket, bra, operator}
 use Rattle.types.specs.TypeOf.{Typed, typed, untyped, typeOf}
-use Rattle.typing.specs.Statements.{Sound, Complete, Places, Verdict, wrong-size, bad-declarations, no-term, no-sort, no-type, a-type, Decided}
+use Rattle.typing.specs.Statements.{Sound, Complete, Places, Decided}
 use Rattle.typing.proofs.Answering as W
 use Rattle.typing.proofs.Answering.{here, the-term}
 use Rattle.types.proofs.Complete.{complete}
@@ -33,7 +33,7 @@ answer-on : (ds ws : List ℕ) (n : ℕ) (t : Tree) → length ws ≡ maxWords �
 unfolding partDepth firstDepth treeIn
 answer-on ds ws n t size good inside is term =
     let p : parse (take n ws) ≡ t ▹ none = sym (ap parse is) ∙ parse-tree t (term .formed) in
-    let test : isTerm (namesIn ds) ws n ≡ true = term-in (namesIn ds) ws n inside ∙ rw (← is) (tree-term (namesIn ds) t term) in
+    let test : isTerm (namesIn ds) ws n ≡ true = term-test (namesIn ds) ws n .1 (inside, t, is, term) in
     the-term ds ws n size good test ∙ rw p
 
 -- only a type is accepted
@@ -113,7 +113,7 @@ module _ (ds ws : List ℕ) (n : ℕ) where
   decided-by true false c size good test = rw (W.bad-declarations ds ws n (eqb-true _ _ size) good) (bad-declarations (eqb-true _ _ size) good)
   decided-by true true false size good test =
       rw (W.no-term ds ws n (eqb-true _ _ size) good test)
-      (no-term (eqb-true _ _ size) good (λ t h. let z : false ≡ true = sym test ∙ term-in (namesIn ds) ws n (h .inside) ∙ rw (← h .is) (tree-term (namesIn ds) t (h .term)) in let x : _≡_ {A = ℕ} 0 1 = cc in omega arith))
+      (no-term (eqb-true _ _ size) good (λ t h. let z : false ≡ true = sym test ∙ term-test (namesIn ds) ws n .1 (h .inside, t, h .is, h .term) in let x : _≡_ {A = ℕ} 0 1 = cc in omega arith))
   decided-by true true true size good test =
       let h = here (namesIn ds) ws n test in
       let k : HeldTerm ds ws n (h .tree) = record { size = eqb-true _ _ size; good = good; inside = h .inside; is = h .is; term = h .term } in

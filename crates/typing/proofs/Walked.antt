@@ -17,9 +17,9 @@ use Rattle.typing.specs.declared.sorts.Gathered as G
 use Rattle.typing.specs.declared.infer.Verdict as Answer
 use Rattle.typing.specs.declared.sorts.Outcome as O
 use Rattle.typing.specs.declared.sorts.Sorted as S
-use Rattle.typebook.specs.Shapes.{Shape, shapeOf}
+use Rattle.typebook.specs.Code.Shapes.{Shape, shapeOf}
 use Rattle.typing.specs.Code.Shapes.{shapeAt, Small, Ready, Above, Answers}
-use Rattle.typebook.specs.Lines.{concluded, alikeTo, allAlike, isSum}
+use Rattle.typebook.specs.Code.Lines.{concluded, alikeTo, allAlike, isSum}
 use Rattle.declarations.specs.Declarations.{contextIn}
 use Rattle.typing.specs.Code.Verdicts.{settlement, leafOf, Settled, Found}
 use Rattle.typing.specs.Code.Conclude.{noneYet, oneMore, Concludes}

@@ -1,13 +1,15 @@
--- The answer of "the typing of one term": document 01, "What comes out, by whose doing".
+-- The answer of "the typing of one term", as a function for the code to equal: the relation to believe is `Verdict` of `Statements`, by the published rules, and `Decided` there says that
+-- the answer is so. Document 01, "What comes out, by whose doing".
 use mathlib.Core.Path.{_≡_}
-use mathlib.Core.Bool.{true, cond}
+use mathlib.Core.Logic.{_≢_}
+use mathlib.Core.Bool.{true, false, cond}
 use mathlib.Core.List.{List, [], _++_}
 use Prim.Native.Nat.{ℕ, _≤_}
 use lib.Dec.{eqb}
 use lib.ListN.{length, take, replicate}
 use Rattle.term.specs.Parts.{parse, treeIn}
 use Rattle.term.specs.Terms.{maxWords, partDepth, IsTerm, isTerm}
-use Rattle.term.specs.Trees.{Tree, words}
+use Rattle.term.specs.Trees.{Tree, words, depth}
 use Rattle.typing.specs.declared.terms.Kind as K
 use Rattle.typing.specs.declared.terms.Kind.the-variants as Kinds
 use Rattle.typing.specs.declared.terms.Sizes as Z
@@ -15,6 +17,7 @@ use Rattle.typing.specs.declared.terms.TermType as T
 use Rattle.typing.specs.declared.terms.Typing as A
 use Rattle.declarations.specs.Declarations.{contextIn, namesIn, goodDeclarations}
 use Rattle.types.specs.Rules.{_⊢_∶_, IsType}
+use Rattle.types.specs.First.{HasSort, FirstUntyped}
 use Rattle.types.specs.Sorts.{Sort, index, basis, scalar, ket, bra, operator}
 use Rattle.types.specs.TypeOf.{Typed, typed, untyped, typeOf}
 
@@ -84,3 +87,12 @@ pub record TypedTerm (ds ws : List ℕ) (n : ℕ) (t : Tree) (S : Sort) : Type 0
   pub term : IsTerm (namesIn ds) t
   pub isType : IsType S
   pub rules : contextIn ds ⊢ t ∶ S
+
+-- Every answer with what it says, each told apart from those before it. 01: "They test 1; 7 for bad declarations; 8, also for a length that is not the term's; 10; 11"
+pub data Verdict (ds ws : List ℕ) (n : ℕ) : A.Typing → Type 0 where
+  wrong-size : length ws ≢ maxWords → Verdict ds ws n (refuse 1 0)
+  bad-declarations : length ws ≡ maxWords → goodDeclarations ds ≡ false → Verdict ds ws n (refuse 7 0)
+  no-term : length ws ≡ maxWords → goodDeclarations ds ≡ true → ((t : Tree) → HeldTerm ds ws n t → ⊥) → Verdict ds ws n (refuse 8 0)
+  no-sort : {t : Tree} {k : ℕ} → HeldTerm ds ws n t → (HasSort (contextIn ds) t → ⊥) → FirstUntyped (contextIn ds) t k → Verdict ds ws n (refuse 10 k)
+  no-type : {t : Tree} {S : Sort} → HeldTerm ds ws n t → contextIn ds ⊢ t ∶ S → (IsType S → ⊥) → Verdict ds ws n (refuse 11 0)
+  a-type : {t : Tree} {S : Sort} → TypedTerm ds ws n t S → Verdict ds ws n (answerOf n (depth t) (typed S))

@@ -6,6 +6,7 @@ use crate::sorts::Run;
 use crate::sorts::Sorted;
 use crate::sorts::put_run;
 use crate::sorts::same_runs;
+use term::heads::INDEX_PRODUCT;
 use typebook::are_fit;
 use typebook::class_by;
 use typebook::number;
@@ -18,7 +19,7 @@ ghost use Prim.Native.Nat.{_/_, _≤_, _<_};
 ghost use lib.ListN.{length};
 ghost use Rattle.words.specs.Words.{laid, Added};
 ghost use Rattle.typing.specs.Code.Shapes.{shapeAt, runAt, Inside, Near, Ready};
-ghost use Rattle.typebook.specs.Lines.{ruleAt, met, sideOf, shortBoth};
+ghost use Rattle.typebook.specs.Code.Lines.{ruleAt, met, sideOf, shortBoth};
 ghost use Rattle.typing.specs.Code.Conclude.{placeOf, sideSize, planOf, standing, sidesOf, Laying, Concludes};
 
 // Where one of the children's indices stands, by its digit.
@@ -142,7 +143,7 @@ fn put_side(made: &mut [u16], to: usize, stack: &[u16], product: bool, p: Run, q
 {
     if product {
         if p.len != 0 {
-            made[to] = 512;
+            made[to] = INDEX_PRODUCT;
             let end = put_run(made, to + 1, stack, p);
             return put_run(made, end, stack, q);
         }
@@ -172,7 +173,7 @@ fn lay(stack: &mut [u16], top: usize, p: Plan, g: Gathered)
         if p.product {
             if left.len != 0 && right.len == 0 && g.at == top + left.len {
                 let b = g.latest;
-                insert(stack, top, 512, left.len + b.left);
+                insert(stack, top, INDEX_PRODUCT, left.len + b.left);
                 return;
             }
         } else {

@@ -5,7 +5,7 @@ use words::append;
 use words::same;
 ghost use mathlib.Core.Path.{_≡_};
 ghost use Rattle.words.specs.Words.{sameWords, laid, Added};
-ghost use Rattle.typebook.specs.Lines.{alikeTo};
+ghost use Rattle.typebook.specs.Code.Lines.{alikeTo};
 ghost use Rattle.typing.specs.Code.Shapes.{shapeAt, runAt, Inside, Small, Room};
 
 // An index or a basis has its index on the left; a ket has its index on the left, a bra on the right, and an operator its rows on the left and its columns on the right, as

@@ -16,7 +16,7 @@ ghost use Rattle.types.specs.Sorts.{Sort};
 ghost use Rattle.types.specs.TypeOf.{typed};
 ghost use Rattle.declarations.specs.Declarations.{contextIn, goodDeclarations};
 ghost use Rattle.typing.specs.Answers.{sizesOf, refuse, answerOf, typingOf};
-ghost use Rattle.typebook.specs.Shapes.{shapeOf};
+ghost use Rattle.typebook.specs.Code.Shapes.{shapeOf};
 ghost use Rattle.typing.specs.Code.Shapes.{shapeAt, Small};
 ghost use Rattle.typing.specs.Code.Verdicts.{Found, typingIn, kindOf};
 

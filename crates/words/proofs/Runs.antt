@@ -57,6 +57,26 @@ cleared-twice ws n h =
 pub to-end : (ws : List ℕ) (from : ℕ) → take (length ws - from) (drop from ws) ≡ drop from ws
 to-end ws from = take-all (length ws - from) (drop from ws) (omega (arith, length-drop from ws))
 
+-- as many words as there are, from an offset that may be past the end
+take-min : (n m : ℕ) (ws : List ℕ) → m ≡ min n (length ws) → take m ws ≡ take n ws
+take-min n m ws h = elim (decLe n (length ws)) [
+  | yes k ↦ let z : m ≡ n = omega arith in rw z
+  | no k ↦ take-all m ws (omega arith) ∙ sym (take-all n ws (omega arith))
+]
+
+pub clipped : (ws : List ℕ) (from n s m : ℕ) → s ≡ min from (length ws) → m ≡ min n (length ws - s) → take (s + m - s) (drop s ws) ≡ take n (drop from ws)
+clipped ws from n s m h k =
+    let l = length-drop s ws in
+    let t = take-min n (s + m - s) (drop s ws) (omega arith) in
+    elim (decLe from (length ws)) [
+      | yes y ↦ let z : s ≡ from = omega arith in t ∙ ap (λ (i : ℕ). take n (drop i ws)) z
+      | no y ↦ t ∙ ap (take n) (drop-of-length-le ws {i = s} (omega arith) ∙ sym (drop-of-length-le ws {i = from} (omega arith)))
+    ]
+
+-- up to an offset before its own start there is no run
+pub run-to : (ws : List ℕ) (from to m : ℕ) {run : List ℕ} → m ≡ min from to → run ≡ take (to - m) (drop from ws) → run ≡ take (to - from) (drop from ws)
+run-to ws from to m h e = let z : to - m ≡ to - from = omega arith in rw (e, z)
+
 -- with the number of words that both have: that many of the one, and the rest of the other
 pub overlaid-is : (dst src : List ℕ) (i : ℕ) → i ≡ min (length dst) (length src) → overlaid dst src ≡ take i src ++ drop i dst
 unfolding overlaid
@@ -238,3 +258,17 @@ added out at src out′ e h o = elim (decLe (at + length src) (length out)) [
       }
   | no k ↦ record { size = rw (o, laid-out out at src (omega arith)); end = h; front = λ x. absurd (k x) }
 ]
+
+-- the empty run; `at` is an end that `append` answers, so it is at most one past the slice's
+pub none-added : (out : List ℕ) (at : ℕ) → at ≤ length out + 1 → Added out at [] out at
+none-added out at h =
+    let z : at + 0 ≡ at = omega arith in
+    record { size = refl; end = omega arith; front = λ k. rw z (sym (append-nil (take at out))) }
+
+-- a run that is known by another name
+pub added-as : {out : List ℕ} {at : ℕ} {xs ys out′ : List ℕ} {e : ℕ} → xs ≡ ys → Added out at xs out′ e → Added out at ys out′ e
+added-as h a = rw h at a
+
+-- what `append` and its like answer
+pub appended : {out : List ℕ} {at : ℕ} {src out′ : List ℕ} {e : ℕ} → (e ≡ min (at + length src) (length out + 1)) × (out′ ≡ laid out at src) → Added out at src out′ e
+appended {out} {at} {src} {out′} {e} h = added out at src out′ e (h .0) (h .1)

@@ -1,8 +1,8 @@
 // Runs of words as such: clearing, copying and comparing them.
 ghost use mathlib.Core.Path.{_≡_};
 ghost use mathlib.Core.Bool.{_&&_};
-ghost use mathlib.Core.List.{_∷_};
-ghost use Prim.Native.Nat.{_+_, min};
+ghost use mathlib.Core.List.{[], _∷_};
+ghost use Prim.Native.Nat.{_+_, _-_, min};
 ghost use lib.Dec.{eqb};
 ghost use lib.ListN.{length, take, drop, getD};
 ghost use Rattle.words.specs.Words.{cleared, overlaid, agreeing, sameWords, laid};
@@ -32,6 +32,15 @@ fn lesser(a: usize, b: usize) -> usize
     ensures { λ r. ⌜ r ≡ min a b ⌝ }
 {
     if a < b { a } else { b }
+}
+
+// The words of a run from `from` on, `n` of them or as many as there are.
+pub fn run(ws: &[u16], from: usize, n: usize) -> &[u16]
+    ensures { λ r. ⌜ now r ≡ take n (drop from (now (ws .entry))) ⌝ }
+{
+    let start = lesser(from, ws.len());
+    let end = start + lesser(n, ws.len() - start);
+    &ws[start..end]
 }
 
 // Copies `src` over the front of `dst`, as many words as both have, and says how many. The loop has one test, so that it is compiled to copies of many words.
@@ -114,6 +123,21 @@ pub fn append(out: &mut [u16], at: usize, src: &[u16]) -> usize
     }
     copy_words(&mut out[at..], src);
     at + src.len()
+}
+
+// One word, likewise.
+pub fn append_word(out: &mut [u16], at: usize, word: u16) -> usize
+    ensures { λ r. ⌜ (r ≡ min (at + 1) (length (now (out .entry)) + 1)) × (now (out .exit) ≡ laid (now (out .entry)) at (word ∷ [])) ⌝ }
+{
+    let one = [word];
+    append(out, at, &one)
+}
+
+// The words of `ws` from `from` up to `to`, likewise; those that `ws` does not have are left out.
+pub fn append_run(out: &mut [u16], at: usize, ws: &[u16], from: usize, to: usize) -> usize
+    ensures { λ r. ⌜ (r ≡ min (at + length (take (to - from) (drop from (now (ws .entry))))) (length (now (out .entry)) + 1)) × (now (out .exit) ≡ laid (now (out .entry)) at (take (to - from) (drop from (now (ws .entry))))) ⌝ }
+{
+    append(out, at, run(ws, from, to - lesser(from, to)))
 }
 
 // Puts a word at an offset, in front of the `n` words from there on, which move up by one; the word behind them goes. Where there is none behind them it changes nothing.

@@ -1,9 +1,10 @@
-//! `batch [--json] [--only SUFFIX] PATH..`: replays files, and the files of folders, in the same two work slices. Progress goes to standard
-//! error; what was refused and why, in words, to standard output, with a summary; with `--json` a line a file instead. With `--only` a
-//! folder's files count only where their names end so. The exit status is 0 only if every file was accepted; files that cannot be read are
-//! named and counted.
+//! `batch [--json] [--only SUFFIX] PATH..`: replays files, and the files of folders, in the same two work slices. It begins with the longest
+//! file and goes on with the shortest; the others follow in their order. Progress goes to standard error; what was refused and why, in words,
+//! to standard output, with a summary; with `--json` a line a file instead. With `--only` a folder's files count only where their names end
+//! so. The exit status is 0 only if every file was accepted; files that cannot be read are named and counted.
 
 use fejogbu::{replay, Answer, Code, Work};
+use std::cmp::Reverse;
 use std::fs;
 use std::io::{IsTerminal, Read, Write};
 use std::path::{Path, PathBuf};
@@ -11,6 +12,13 @@ use std::process::ExitCode;
 
 /// One byte more than a file may have tells that it is too long.
 const MOST_BYTES: u64 = 65_537;
+
+const HELP: &str = "\
+usage: batch [--json] [--only SUFFIX] PATH..   (a path is a file or a folder)
+  --json         a line a file, for a machine
+  --only SUFFIX  of a folder, only the files whose names end so
+The longest file is replayed first and the shortest second, all in the same two work slices: should a short
+term keep the tail of a longer one, that would show at once. The others follow in their order.";
 
 /// What was asked for.
 #[derive(Default)]
@@ -45,6 +53,28 @@ fn files_under(path: &Path, only: &str, found: &mut Vec<PathBuf>) {
     for path in paths {
         files_under(&path, only, found);
     }
+}
+
+/// The order of the replay: the longest file, the shortest, then the others as they come. So the customer's batches have begun ever since a short term kept the stale tail of a
+/// longer one. Of files of one length the first counts, and a file without a length keeps its place.
+fn in_order<F>(files: Vec<F>, length: impl Fn(&F) -> Option<u64>) -> Vec<F> {
+    let lengths: Vec<(u64, usize)> = files
+        .iter()
+        .enumerate()
+        .filter_map(|(k, file)| Some((length(file)?, k)))
+        .collect();
+    let longest = lengths.iter().max_by_key(|(n, k)| (*n, Reverse(*k)));
+    let longest = longest.map(|&(_, k)| k);
+    let others = lengths.iter().filter(|(_, k)| Some(*k) != longest);
+    let shortest = others.min().map(|&(_, k)| k);
+    let mut placed: Vec<(usize, F)> = files.into_iter().enumerate().collect();
+    // The sort is stable.
+    placed.sort_by_key(|&(k, _)| match Some(k) {
+        place if place == longest => 0,
+        place if place == shortest => 1,
+        _ => 2,
+    });
+    placed.into_iter().map(|(_, file)| file).collect()
 }
 
 fn read(path: &Path) -> std::io::Result<Vec<u8>> {
@@ -148,13 +178,14 @@ impl Counts {
 
 fn main() -> ExitCode {
     let Some(asked) = asked(std::env::args().skip(1)) else {
-        eprintln!("usage: batch [--json] [--only SUFFIX] PATH..   (a path is a file or a folder)");
+        eprintln!("{HELP}");
         return ExitCode::from(2);
     };
     let mut files = Vec::new();
     for path in &asked.paths {
         files_under(path, &asked.only, &mut files);
     }
+    let files = in_order(files, |path| Some(fs::metadata(path).ok()?.len()));
     let mut work = Work::new();
     let mut counts = Counts::default();
     for (k, path) in files.iter().enumerate() {
@@ -182,5 +213,40 @@ fn main() -> ExitCode {
         ExitCode::SUCCESS
     } else {
         ExitCode::FAILURE
+    }
+}
+
+#[cfg(test)]
+mod tests {
+    use super::in_order;
+
+    fn replayed(lengths: &[u64]) -> Vec<u64> {
+        in_order(lengths.to_vec(), |&n| (n != 0).then_some(n))
+    }
+
+    #[test]
+    fn the_longest_comes_first_and_the_shortest_second() {
+        assert_eq!(replayed(&[5, 3, 9, 4, 2, 7]), [9, 2, 5, 3, 4, 7]);
+        assert_eq!(replayed(&[1, 2]), [2, 1]);
+        assert_eq!(replayed(&[2, 1]), [2, 1]);
+        assert_eq!(replayed(&[6]), [6]);
+        assert!(replayed(&[]).is_empty());
+    }
+
+    #[test]
+    fn of_files_of_one_length_the_first_counts() {
+        let files = vec![(4, 'a'), (9, 'b'), (1, 'c'), (9, 'd'), (1, 'e')];
+        let names = in_order(files, |&(n, _)| Some(n));
+        assert_eq!(names.iter().map(|f| f.1).collect::<String>(), "bcade");
+        let files = vec![(4, 'a'), (4, 'b'), (4, 'c')];
+        let names = in_order(files, |&(n, _)| Some(n));
+        assert_eq!(names.iter().map(|f| f.1).collect::<String>(), "abc");
+    }
+
+    /// Here 0 stands for no length.
+    #[test]
+    fn a_file_without_a_length_keeps_its_place() {
+        assert_eq!(replayed(&[0, 3, 0, 9, 5]), [9, 3, 0, 0, 5]);
+        assert_eq!(replayed(&[0, 0]), [0, 0]);
     }
 }

@@ -10,7 +10,7 @@ use Rattle.text.specs.Pieces.{Text}
 use Rattle.format.specs.Files.{File, Key}
 use Rattle.format.specs.Reading as R
 use Rattle.format.specs.Kept.{stepsSize, declarationsOf, padded, stepsOf}
-use Rattle.format.proofs.Reached.{Reached}
+use Rattle.format.specs.Code.Reached.{Reached}
 use Rattle.reader.specs.declared.walking.State.{State}
 use Rattle.reader.specs.declared.walking.Taken.{Taken}
 use Rattle.reader.specs.declared.files.Read.{Read}

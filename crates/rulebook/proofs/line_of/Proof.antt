@@ -5,7 +5,7 @@ use Rattle.words.specs.Listed.{upTo}
 use Rattle.words.proofs.Listed.{upTo-read}
 use Rattle.term.specs.Heads.{word}
 use Rattle.rules.specs.Table.{ruleOf}
-use Rattle.rulebook.specs.Rows.{rowOf, lineOf}
+use Rattle.rulebook.specs.Code.Rows.{rowOf, lineOf}
 use Rattle.rulebook.proofs.Rows.{line-past}
 use Rattle.rulebook.proofs.line_of.Statement.{statement}
 use Rattle.rulebook.proofs.line_of.Tie as tie

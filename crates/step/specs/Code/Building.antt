@@ -2,19 +2,30 @@
 use mathlib.Core.Path.{_≡_}
 use mathlib.Core.Bool.{Bool, true, false, cond, _&&_, _||_}
 use mathlib.Core.List.{List, [], _∷_, _++_}
-use Prim.Native.Nat.{ℕ, _+_, _-_, _/_, _%_, _≤_, _<_}
+use Prim.Native.Nat.{ℕ, _/_, _%_, _<_}
 use lib.Dec.{eqb, ltb}
-use lib.ListN.{length, take, drop}
+use lib.ListN.{length, drop}
 use Rattle.term.specs.Trees.{Tree, words}
 use Rattle.term.specs.Terms.{maxDepth}
 use Rattle.types.specs.Sorts.{Sort, Context}
-use Rattle.declarations.specs.Declarations.{goodDeclarations}
-use Rattle.rules.specs.Patterns.{firstIndex, secondIndex, sortOf}
-use Rattle.rules.specs.Rewrite.{holes}
-use Rattle.step.specs.declared.matching.Match.{Match}
-use Rattle.step.specs.Code.Matching.{startOf, endOf}
-use Rattle.step.specs.Code.Shapes.{Begins, Sorted}
+use Rattle.types.specs.Rules.{_⊢_∶_}
+use Rattle.declarations.specs.Declarations.{contextIn, goodDeclarations}
+use Rattle.rules.specs.Patterns.{firstIndex, secondIndex}
+use Rattle.rules.specs.Rewrite.{sortOf, holes}
+use Rattle.matcher.specs.declared.Match.{Match}
+use Rattle.matcher.specs.Matching.{startOf, Holds}
+use Rattle.shapes.specs.Reading.{Begins}
 
+-- ---- a typed part
+module _ (ds : List ℕ) where
+  abbrev pub Sorted : Tree → Type 0
+  Sorted t = (S : Sort) × (contextIn ds ⊢ t ∶ S)
+
+  -- words that begin with one, under good declarations
+  abbrev pub HasSort : List ℕ → Type 0
+  HasSort ws = (goodDeclarations ds ≡ true) × ((t : Tree) × Begins ws maxDepth t × Sorted t)
+
+-- ---- the words of a right side
 -- the first or the second index of a sort
 abbrev pub chosenIndex : Bool → Sort → Tree
 chosenIndex true S = secondIndex S
@@ -41,12 +52,9 @@ unfolding asks
 allAsk n [] = true
 allAsk n (w ∷ ws) = asks n w && allAsk n ws
 
--- the trees that the holes hold, of the part that begins at a place in a term: all of them typed
-pub record Caught (ds term : List ℕ) (place : ℕ) (m : Match) (c : List Tree) : Type 0 where
+-- the trees that the holes hold, of words that begin with a part: all of them typed, and each is found where the match says
+pub record Caught (ds ws : List ℕ) (m : Match) (c : List Tree) : Type 0 where
   pub good : goodDeclarations ds ≡ true
-  pub many : m .held ≡ length c
-  pub few : length c ≤ 5
-  pub spans : (k : ℕ) → k < 5 → (startOf m k ≤ endOf m k) × (place + endOf m k ≤ length term)
-  pub are : (k : ℕ) → k < length c → take (endOf m k - startOf m k) (drop (place + startOf m k) term) ≡ words (holes c k)
-  pub begins : (k : ℕ) → k < length c → Begins (drop (place + startOf m k) term) maxDepth (holes c k)
+  pub holds : Holds ws m c
+  pub begins : (k : ℕ) → k < length c → Begins (drop (startOf m k) ws) maxDepth (holes c k)
   pub sorted : (k : ℕ) → k < length c → Sorted ds (holes c k)

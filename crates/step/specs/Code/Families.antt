@@ -9,9 +9,8 @@ use Rattle.term.specs.Parts.{parse, treeIn}
 use Rattle.types.specs.Sorts.{Context}
 use Rattle.rules.specs.Table.{Rule, Which, Summand, plain, scaled, spreading, removing, absorbing, merging, collecting, swapping}
 use Rattle.rules.specs.Instances.{Chain}
-use Rattle.rules.specs.Rewrite.{place, usable, rewrite}
-use Rattle.rules.proofs.Known.{nameless}
-use Rattle.rulebook.specs.Rows.{headOf, summandNumber}
+use Rattle.rules.specs.Rewrite.{nameless, place, usable, rewrite}
+use Rattle.rulebook.specs.Code.Rows.{headOf, summandNumber}
 use Rattle.step.specs.declared.writing.Rewritten.{Rewritten}
 use Rattle.step.specs.Code.Writing.{Writes}
 

@@ -8,8 +8,8 @@ use lib.ListN.{length, take}
 use Rattle.term.specs.Trees.{Tree, words, Formed, depth, found, subtree}
 use Rattle.term.specs.Terms.{maxWords, maxDepth}
 use Rattle.types.specs.Sorts.{Sort}
+use Rattle.types.specs.Rules.{Typed}
 use Rattle.declarations.specs.Declarations.{contextIn, goodDeclarations}
-use Rattle.rules.specs.Statements.{Typed}
 use Rattle.rules.specs.Steps.{Stepped, few}
 use Rattle.step.specs.declared.writing.Rewritten.{Rewritten}
 

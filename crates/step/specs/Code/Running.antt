@@ -7,9 +7,8 @@ use lib.Dec.{eqb}
 use lib.ListN.{length}
 use Rattle.term.specs.Trees.{Tree, words}
 use Rattle.types.specs.Sorts.{Sort, Context}
-use Rattle.types.specs.Rules.{IsType}
+use Rattle.types.specs.Rules.{IsType, Typed}
 use Rattle.declarations.specs.Declarations.{contextIn, goodDeclarations}
-use Rattle.rules.specs.Statements.{Typed}
 use Rattle.rules.specs.Steps.{Stepped, stepOf, Move, Sides, chosen, put, Run}
 use Rattle.step.specs.declared.run.Answer.{Answer}
 use Rattle.step.specs.Answers.{held}

@@ -3,8 +3,7 @@ use mathlib.Core.Path.{_≡_}
 use mathlib.Core.Bool.{true}
 use mathlib.Core.List.{List, _++_}
 use mathlib.Core.Option.{some}
-use Prim.Native.Nat.{ℕ, _+_, _≤_, _<_}
-use lib.ListN.{length}
+use Prim.Native.Nat.{ℕ, _≤_, _<_}
 use Rattle.term.specs.Heads.{Label}
 use Rattle.term.specs.Trees.{Tree, words, Formed, depth}
 use Rattle.term.specs.Terms.{maxDepth}
@@ -14,22 +13,19 @@ use Rattle.declarations.specs.Declarations.{contextIn, goodDeclarations}
 use Rattle.rules.specs.Patterns.{Pattern}
 use Rattle.rules.specs.Table.{Kind, Which, child, child-i, Summand, Rule, _⇒_▷_, spreading, removing, absorbing, merging, collecting, swapping, ruleOf}
 use Rattle.rulebook.specs.declared.Row.{Row}
-use Rattle.rulebook.specs.Rows.{whichNumber, summandNumber, rowOf}
+use Rattle.rulebook.specs.Code.Rows.{whichNumber, summandNumber, rowOf}
 use Rattle.step.specs.Code.Families.{Named, Counted}
 
--- the part from a place up to an end
-pub record Site (ds term : List ℕ) (place end : ℕ) : Type 0 where
+-- words from a place on, which begin with the part there
+pub record Site (ds ws : List ℕ) : Type 0 where
   pub good : goodDeclarations ds ≡ true
   pub tree : Tree
   pub formed : Formed tree
   pub shallow : depth tree ≤ maxDepth
   pub sort : Sort
   pub typed : contextIn ds ⊢ tree ∶ sort
-  pub before : List ℕ
   pub after : List ℕ
-  pub whole : term ≡ before ++ (words tree ++ after)
-  pub begins : place ≡ length before
-  pub ends : end ≡ place + length (words tree)
+  pub whole : ws ≡ words tree ++ after
 
 -- a row of the table that is an equation's
 pub record Equation (row : Row) : Type 0 where

@@ -1,11 +1,11 @@
 -- Each test is one of the definition.
-use Rattle.typebook.specs.Lines.{fitted}
+use Rattle.typebook.specs.Code.Lines.{fitted}
 use mathlib.Core.Bool.{true, false}
 use mathlib.Core.Path.{_≡_, sym, _∙_}
 use Rattle.term.specs.Heads.{childOf}
-use Rattle.typebook.specs.Shapes.{fitting}
+use Rattle.typebook.specs.Code.Shapes.{fitting}
 use borrow.Author.Tests.{ne-eqb, not-true, not-false}
-use Rattle.typebook.specs.Lines.{fitted}
+use Rattle.typebook.specs.Code.Lines.{fitted}
 use borrow.Author.Needs.{needs}
 use Rattle.typebook.proofs.are_fit.Statement.{statement}
 use Rattle.typebook.proofs.are_fit.Tie as tie

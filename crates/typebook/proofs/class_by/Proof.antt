@@ -1,6 +1,6 @@
 -- Each digit is one of the definition.
 use borrow.Author.Tests.{eq-eqb, ne-eqb}
-use Rattle.typebook.specs.Lines.{classBy}
+use Rattle.typebook.specs.Code.Lines.{classBy}
 use borrow.Author.Needs.{needs}
 use Rattle.typebook.proofs.class_by.Statement.{statement}
 use Rattle.typebook.proofs.class_by.Tie as tie

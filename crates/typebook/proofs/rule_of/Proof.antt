@@ -2,7 +2,7 @@
 use Prim.Native.Nat.{_≤_}
 use mathlib.Core.Path.{refl, sym}
 use lib.ListN.{List·getD-eq-default}
-use Rattle.typebook.specs.Lines.{rules, ruleAt}
+use Rattle.typebook.specs.Code.Lines.{rules, ruleAt}
 use borrow.Author.Needs.{needs}
 use Rattle.typebook.proofs.rule_of.Statement.{statement}
 use Rattle.typebook.proofs.rule_of.Tie as tie

@@ -4,7 +4,7 @@ use mathlib.Core.List.{List, [], _∷_, _++_}
 use Prim.Native.Nat.{ℕ, _+_, _/_, _%_, _≤_}
 use lib.Dec.{eqb}
 use lib.ListN.{length, getD}
-use Rattle.typebook.specs.Lines.{ruleAt, alikeTo, isSum, fitted, classBy, isProduct, sideOf, shortBoth, childrenOf}
+use Rattle.typebook.specs.Code.Lines.{ruleAt, alikeTo, isSum, fitted, classBy, isProduct, sideOf, shortBoth, childrenOf}
 use Rattle.typing.specs.declared.sorts.Plan as P
 use Rattle.typing.specs.declared.sorts.Run as R
 use Rattle.typing.specs.declared.sorts.Sorted as S

@@ -6,7 +6,7 @@ use mathlib.Core.Option.{Option, some}
 use Prim.Native.Nat.{ℕ, _+_, _≤_}
 use lib.ListN.{length, take, drop}
 use Rattle.term.specs.declared.heads.Class.the-variants.{Scalar}
-use Rattle.typebook.specs.Shapes.{Shape, shape, given}
+use Rattle.typebook.specs.Code.Shapes.{Shape, shape, given}
 use Rattle.typing.specs.declared.sorts.Sorted as S
 use Rattle.typing.specs.declared.sorts.Run as R
 use Rattle.typing.specs.declared.sorts.Outcome as O

@@ -17,7 +17,7 @@ use Rattle.typing.specs.declared.terms.Kind as K
 use Rattle.typing.specs.declared.terms.Kind.the-variants as Kinds
 use Rattle.typing.specs.declared.terms.Typing as A
 use Rattle.typing.specs.Answers.{refuse, answerOf}
-use Rattle.typebook.specs.Shapes.{Shape, shape, shapeOf, given}
+use Rattle.typebook.specs.Code.Shapes.{Shape, shape, shapeOf, given}
 use Rattle.typing.specs.Code.Shapes.{shapeAt, Small, Above, plain}
 use Rattle.typing.specs.Code.Conclude.{runOf}
 use Rattle.declarations.specs.Declarations.{basisAt, variableAt, basisIn, variableIn, contextIn, namesIn}

@@ -1,8 +1,8 @@
--- So many words as the slice has, or fewer, are a part of it.
-use mathlib.Core.Path.{sym}
+-- So many words as the slice has, or fewer, are a part of it; where it has fewer, all are.
+use mathlib.Core.Path.{refl, sym}
 use native.Mathlib.Omega.{arith}
 use borrow.Author.Needs.{needs}
-use lib.Seq.{length-take-le}
+use lib.Seq.{length-take-le, take-all}
 use Rattle.cases.proofs.input.front_mut.Statement.{statement}
 use Rattle.cases.proofs.input.front_mut.Tie as tie
 
@@ -13,7 +13,7 @@ returns : tie.Need-returns
 returns c = search needs
 
 returns-2 : tie.Need-returns-2
-returns-2 c = search needs
+returns-2 c = let a = c .before .args in record { same = sym (take-all (a .n) (a .ws .now) (omega arith)); begin = refl }
 
 pub front-mut-spec : {M : Type 1} → statement M
 front-mut-spec = tie.close (tie.spec slice-aggregate-result returns returns-2)

@@ -1,7 +1,7 @@
 -- The reading, and the run of what was read.
 use mathlib.Core.Path.{refl}
 use Rattle.file.proofs.Performed.{Done, refused, ran}
-use Rattle.file.proofs.Clauses.{behind, exactly, equal-sides}
+use Rattle.file.proofs.Clauses.{behind, exactly, named, equal-sides, equal-ends}
 use borrow.Author.Needs.{needs}
 use Rattle.file.proofs.replay.replay.Statement.{statement}
 use Rattle.file.proofs.replay.replay.Tie as tie
@@ -28,7 +28,7 @@ returns : tie.Need-returns
 returns c =
     let read = c .before .before .before .before .before .before .before .before .before .read-file .ensures in
     let h : Done _ _ _ _ _ _ _ _ _ _ = record { answer = read .0; declarations = read .1; lefts = read .2; rights = read .3; moves = read .4 } in
-    let x = refused _ _ _ _ _ refl refl h (c .before .if1 .taken) (c .refused-with .ensures) in (x .answer, ((x .left-slice, x .right-slice), (behind x, (exactly x, equal-sides _))))
+    let x = refused _ _ _ _ _ refl refl h (c .before .if1 .taken) (c .refused-with .ensures) in (x .answer, ((x .left-slice, x .right-slice), (behind x, (exactly x, (named x, (equal-sides _, equal-ends x))))))
 
 slice-aggregate-run-steps : tie.Need-slice-aggregate-run-steps
 slice-aggregate-run-steps c = search needs
@@ -50,7 +50,7 @@ returns-2 c =
     let read = c .before .before .before .before .before .before .before .before .before .before .before .before .before .before .before .before .before .read-file .ensures in
     let h : Done _ _ _ _ _ _ _ _ _ _ = record { answer = read .0; declarations = read .1; lefts = read .2; rights = read .3; moves = read .4 } in
     let run = c .before .before .before .before .run-steps .ensures in
-    let x = ran _ _ _ _ _ refl refl h (c .before .before .before .before .before .before .before .before .before .if1 .left) (run .0) (run .1) (run .2) in (x .answer, ((x .left-slice, x .right-slice), (behind x, (exactly x, equal-sides _))))
+    let x = ran _ _ _ _ _ refl refl h (c .before .before .before .before .before .before .before .before .before .if1 .left) (run .0) (run .1) (run .2) in (x .answer, ((x .left-slice, x .right-slice), (behind x, (exactly x, (named x, (equal-sides _, equal-ends x))))))
 
 pub replay-spec : {M : Type 1} → statement M
 replay-spec =

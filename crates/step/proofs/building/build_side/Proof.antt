@@ -4,44 +4,36 @@ use mathlib.Core.List.{List}
 use Prim.Native.Nat.{_-_, _≤_}
 use native.Mathlib.Omega.{arith}
 use borrow.Author.Needs.{needs}
-use lib.ListN.{length, take, drop}
+use lib.ListN.{length, take}
+use lib.Seq.{take-all}
 use Rattle.words.specs.Words.{Added}
-use Rattle.words.proofs.Runs.{added-both}
+use Rattle.words.proofs.Runs.{added-both, none-added, added-as}
 use Rattle.term.specs.Trees.{Tree}
 use Rattle.declarations.specs.Declarations.{contextIn}
-use Rattle.rulebook.specs.Rows.{allWords}
-use Rattle.rulebook.proofs.Rows.{many}
 use Rattle.step.specs.Code.Building.{pieces, Caught}
-use Rattle.step.proofs.Added.{none-added, added-as}
-use Rattle.step.proofs.Pieces.{side-asks, side-more, side-all}
+use Rattle.step.proofs.Pieces.{side-asks, side-more}
 use Rattle.step.proofs.building.build_side.Statement.{statement}
 use Rattle.step.proofs.building.build_side.Tie as tie
 
 abbrev Inv-loop : tie.InvT-loop
-Inv-loop ds term place m from n out₀ at done₀ k₀ out done k =
-    (k ≤ n)
-    × (length out ≡ length out₀)
-    × ((c : List Tree) → Caught ds term place m c → Added out₀ at (pieces (contextIn ds) c (take k (take n (drop from allWords)))) out done)
+Inv-loop ds ws m side out₀ at done₀ k₀ out done k =
+    (k ≤ length side) × (length out ≡ length out₀) × ((c : List Tree) → Caught ds ws m c → Added out₀ at (pieces (contextIn ds) c (take k side)) out done)
 
 abbrev μ-loop : tie.MeasureT-loop
-μ-loop ds term place m from n out₀ at done₀ k₀ out done k = n - k
+μ-loop ds ws m side out₀ at done₀ k₀ out done k = length side - k
 
 loop-holds : tie.Need-loop-holds Inv-loop μ-loop
 unfolding pieces
-loop-holds c = (omega arith, refl, λ d h. none-added _ _ (c .before .before .before .pre .2))
+loop-holds c = (omega arith, refl, λ d h. none-added _ _ (c .before .before .before .before .pre .1))
 
-add-word-at : tie.Need-add-word-at Inv-loop μ-loop
-add-word-at c = let m = many in search needs
+mul-build-word : tie.Need-mul-build-word Inv-loop μ-loop
+mul-build-word c = search needs
 
-word-at-requires : tie.Need-word-at-requires Inv-loop μ-loop
-word-at-requires c κs = search needs
+shared-slice-read-build-word : tie.Need-shared-slice-read-build-word Inv-loop μ-loop
+shared-slice-read-build-word c = search needs
 
 build-word-requires : tie.Need-build-word-requires Inv-loop μ-loop
-build-word-requires c κs =
-    let start = c .before .before .before .before .before .before .before in
-    let args = start .args in
-    let asks = side-asks allWords (args .from) (args .n) (omega arith) (args .found .held) (start .pre .3) (c .before .before .before .loop .k) (omega arith) in
-    (start .pre .0, rw (c .before .word-at .ensures) asks)
+build-word-requires c κs = (c .before .before .before .before .before .before .before .before .pre .0, side-asks _ _ (c .before .before .loop-test .taken) _ (c .before .before .before .before .before .before .before .before .pre .2))
 
 add-k : tie.Need-add-k Inv-loop μ-loop
 add-k c = search needs
@@ -51,13 +43,12 @@ loop-less c = search needs
 
 loop-again : tie.Need-loop-again Inv-loop μ-loop
 loop-again c =
-    let start = c .before .before .before .before .before .before .before .before .before .before in
-    let args = start .args in
+    let start = c .before .before .before .before .before .before .before .before .before .before .before in
     let loop = c .before .before .before .before .before .before .loop in
     let written = c .before .before .build-word .ensures in (
       omega arith,
       written (start .pre .0 .0) (start .pre .0 .1) .size ∙ loop .inv .1,
-      λ d h. added-as (side-more allWords (args .from) (args .n) (omega arith) (contextIn (args .ds .now)) d (loop .k) (omega arith)) (added-both (loop .inv .2 d h) (rw (c .before .before .before .before .word-at .ensures) at (written d h))),
+      λ d h. added-as (side-more _ _ (c .before .before .before .before .before .loop-test .taken) (contextIn (start .args .ds .now)) d) (added-both (loop .inv .2 d h) (written d h)),
     )
 
 same-length : tie.Need-same-length Inv-loop μ-loop
@@ -65,8 +56,8 @@ same-length c = search needs
 
 returns : tie.Need-returns Inv-loop μ-loop
 returns c =
-    let args = c .before .before .before .before .before .args in
-    let all = side-all allWords (args .from) (args .n) (omega arith) (c .before .loop .k) (omega arith) in
+    let args = c .before .before .before .before .before .before .args in
+    let all = take-all (c .before .loop .k) (args .side .now) (c .loop-test .left) in
     λ d h. added-as (ap (pieces (contextIn (args .ds .now)) d) all) (c .before .loop .inv .2 d h)
 
 pub build-side-spec : {M : Type 1} → statement M
@@ -76,8 +67,8 @@ build-side-spec =
     Inv-loop
     μ-loop
     loop-holds
-    add-word-at
-    word-at-requires
+    mul-build-word
+    shared-slice-read-build-word
     build-word-requires
     add-k
     loop-less

@@ -3,13 +3,13 @@ use mathlib.Core.Path.{_∙_}
 use Prim.Native.Nat.{_%_, _<_}
 use native.Mathlib.Omega.{arith}
 use borrow.Author.Needs.{needs}
-use Rattle.step.proofs.Added.{added-as}
-use Rattle.step.proofs.Pieces.{piece-word, piece-hole, piece-index, asked-hole, caught-bounds, caught-run, caught-tree, caught-kind}
+use Rattle.words.proofs.Runs.{appended, added-as}
+use Rattle.step.proofs.Pieces.{piece-word, piece-hole, piece-index, asked-hole, caught-bounds, caught-run, caught-tree, caught-sort}
 use Rattle.step.proofs.building.build_word.Statement.{statement}
 use Rattle.step.proofs.building.build_word.Tie as tie
 
 -- the hole that the word asks for was met
-hole : (c : tie.Else1) → let args = c .before .before .before .before .args in args .word % 256 < args .t4 .held
+hole : (c : tie.Else1) → let args = c .before .before .before .before .args in args .word % 256 < args .t3 .held
 hole c = asked-hole _ _ (c .before .before .before .before .pre .1) (omega arith)
 
 append-word-requires : tie.Need-append-word-requires
@@ -19,7 +19,7 @@ same-length : tie.Need-same-length
 same-length c = search needs
 
 returns : tie.Need-returns
-returns c = λ d h. added-as (piece-word _ d _ (c .before .before .before .before .if1 .taken)) (c .before .before .append-word .ensures)
+returns c = λ d h. added-as (piece-word _ d _ (c .before .before .before .before .if1 .taken)) (appended (c .before .before .append-word .ensures))
 
 cast-hole : tie.Need-cast-hole
 cast-hole c = search needs
@@ -28,41 +28,44 @@ mul-start : tie.Need-mul-start
 mul-start c = search needs
 
 element-copy-out-start : tie.Need-element-copy-out-start
-element-copy-out-start c = let b = caught-bounds (c .before .before .before .before .pre .0 .1) _ (hole c) in search needs
+element-copy-out-start c = let b = caught-bounds (c .before .before .before .before .pre .0 .1) _ (hole (c)) in search needs
 
 mul-end : tie.Need-mul-end
 mul-end c = search needs
 
 element-copy-out-end : tie.Need-element-copy-out-end
-element-copy-out-end c = let b = caught-bounds (c .before .before .before .before .before .pre .0 .1) _ (hole (c .before)) in search needs
-
-add-append-run : tie.Need-add-append-run
-add-append-run c = let b = caught-bounds (c .before .before .before .before .before .before .before .before .pre .0 .1) _ (hole (c .before .before .before .before)) in search needs
-
-add-append-run-2 : tie.Need-add-append-run-2
-add-append-run-2 c = let b = caught-bounds (c .before .before .before .before .before .before .before .before .pre .0 .1) _ (hole (c .before .before .before .before)) in search needs
+element-copy-out-end c = let b = caught-bounds (c .before .before .before .before .before .before .pre .0 .1) _ (hole (c .before .before)) in search needs
 
 append-run-requires : tie.Need-append-run-requires
-append-run-requires c κs = let b = caught-bounds (c .before .before .before .before .before .before .before .before .pre .0 .1) _ (hole (c .before .before .before .before)) in search needs
+append-run-requires c κs = search needs
 
 same-length-2 : tie.Need-same-length-2
 same-length-2 c = search needs
 
 returns-2 : tie.Need-returns-2
-returns-2 c = λ d h. added-as (caught-run h _ (hole (c .before .before .before .before .before .before .before)) ∙ piece-hole _ d _ (omega arith) (c .before .before .before .before .if2 .taken)) (c .before .before .append-run .ensures)
+returns-2 c = λ d h. added-as (caught-run h _ (hole (c .before .before .before .before .before .before .before)) ∙ piece-hole _ d _ (omega arith) (c .before .before .before .before .before .if2 .taken)) (appended (c .before .before .append-run .ensures))
 
-add-append-index : tie.Need-add-append-index
-add-append-index c = let b = caught-bounds (c .before .before .before .before .before .before .before .pre .0 .1) _ (hole (c .before .before .before)) in search needs
+mul-append-index : tie.Need-mul-append-index
+mul-append-index c = let b = caught-bounds (c .before .before .before .before .before .before .pre .0 .1) _ (hole (c .before .before)) in search needs
+
+sub-append-index : tie.Need-sub-append-index
+sub-append-index c = let b = caught-bounds (c .before .before .before .before .before .before .pre .0 .1) _ (hole (c .before .before)) in search needs
+
+part-append-index-start : tie.Need-part-append-index-start
+part-append-index-start c = let b = caught-bounds (c .before .before .before .before .before .before .pre .0 .1) _ (hole (c .before .before)) in search needs
+
+part-append-index-end : tie.Need-part-append-index-end
+part-append-index-end c = search needs
 
 append-index-requires : tie.Need-append-index-requires
-append-index-requires c κs = caught-kind (c .before .before .before .before .before .before .before .before .pre .0 .1) _ (hole (c .before .before .before .before))
+append-index-requires c κs = caught-sort (c .before .before .before .before .before .before .before .before .pre .0 .1) _ (hole (c .before .before .before .before))
 
 same-length-3 : tie.Need-same-length-3
 same-length-3 c = search needs
 
 returns-3 : tie.Need-returns-3
 returns-3 c =
-    λ d h. added-as (rw (caught-tree h _ (hole (c .before .before .before .before .before .before .before))) (piece-index _ d _ (omega arith) (c .before .before .before .before .if2 .left))) (c .before .before .append-index .ensures)
+    λ d h. added-as (rw (caught-tree h _ (hole (c .before .before .before .before .before .before .before))) (piece-index _ d _ (omega arith) (c .before .before .before .before .before .if2 .left))) (c .before .before .append-index .ensures)
 
 pub build-word-spec : {M : Type 1} → statement M
 build-word-spec =
@@ -76,12 +79,13 @@ build-word-spec =
     element-copy-out-start
     mul-end
     element-copy-out-end
-    add-append-run
-    add-append-run-2
     append-run-requires
     same-length-2
     returns-2
-    add-append-index
+    mul-append-index
+    sub-append-index
+    part-append-index-start
+    part-append-index-end
     append-index-requires
     same-length-3
     returns-3)

@@ -5,7 +5,7 @@ use Prim.Native.Nat.{ℕ, _+_, min}
 use lib.ListN.{length}
 use borrow.Author.Needs.{needs}
 use Rattle.words.specs.Words.{laid, Added}
-use Rattle.words.proofs.Runs.{added, added-both}
+use Rattle.words.proofs.Runs.{added, added-both, appended}
 use Rattle.step.proofs.collecting.append_multiple.Statement.{statement}
 use Rattle.step.proofs.collecting.append_multiple.Tie as tie
 
@@ -38,7 +38,7 @@ same-length c = search needs
 returns : tie.Need-returns
 returns c =
     let args = c .before .before .before .before .before .before .before .before .before .before .before .before .before .before .before .before .before .before .before .before .before .before .before .before .args in
-    multiple (args .c .now) (args .d .now) (args .x .now) (c .before .before .before .before .before .before .before .before .before .before .before .before .before .before .before .before .before .before .append-word .ensures) (c .before .before .before .before .before .before .before .before .before .before .before .before .before .before .append-word2 .ensures)
+    multiple (args .c .now) (args .d .now) (args .x .now) (appended (c .before .before .before .before .before .before .before .before .before .before .before .before .before .before .before .before .before .before .append-word .ensures)) (appended (c .before .before .before .before .before .before .before .before .before .before .before .before .before .before .append-word2 .ensures))
     (run (args .c .now) (c .before .before .before .before .before .before .before .before .before .before .append .ensures)) (run (args .d .now) (c .before .before .before .before .before .before .append2 .ensures)) (run (args .x .now) (c .before .before .append3 .ensures))
 
 pub append-multiple-spec : {M : Type 1} → statement M

@@ -4,8 +4,7 @@ use Prim.Native.Nat.{ℕ, _-_}
 use lib.ListN.{length, take, drop}
 use borrow.Author.Needs.{needs}
 use Rattle.words.specs.Words.{Added}
-use Rattle.words.proofs.Runs.{added-both, to-end}
-use Rattle.step.proofs.Added.{added-as}
+use Rattle.words.proofs.Runs.{added-both, to-end, appended, added-as}
 use Rattle.step.proofs.collecting.append_others.Statement.{statement}
 use Rattle.step.proofs.collecting.append_others.Tie as tie
 
@@ -33,7 +32,7 @@ returns : tie.Need-returns
 returns c =
     let args = c .before .before .before .before .before .before .before .before .before .before .before .before .before .before .before .before .before .before .args in
     others (args .ws .now) (args .head) (args .first .start) (args .first .end) (args .second .start) (args .second .end)
-    (c .before .before .before .before .before .before .before .before .before .before .before .before .before .before .append-word .ensures) (c .before .before .before .before .before .before .before .before .before .before .append-run .ensures) (c .before .before .before .before .before .before .append-run2 .ensures) (c .before .before .append-run3 .ensures)
+    (appended (c .before .before .before .before .before .before .before .before .before .before .before .before .before .before .append-word .ensures)) (appended (c .before .before .before .before .before .before .before .before .before .before .append-run .ensures)) (appended (c .before .before .before .before .before .before .append-run2 .ensures)) (appended (c .before .before .append-run3 .ensures))
 
 pub append-others-spec : {M : Type 1} → statement M
 append-others-spec =

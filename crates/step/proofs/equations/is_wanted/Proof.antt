@@ -2,7 +2,8 @@
 use mathlib.Core.Path.{sym, _∙_}
 use borrow.Author.Needs.{needs}
 use Rattle.step.proofs.Equated.{any-kind, wanted-by}
-use Rattle.step.proofs.Pieces.{caught-bounds, caught-sorted, caught-tail}
+use Rattle.step.proofs.Indices.{class-is}
+use Rattle.step.proofs.Pieces.{caught-bounds, caught-sort}
 use Rattle.step.proofs.equations.is_wanted.Statement.{statement}
 use Rattle.step.proofs.equations.is_wanted.Tie as tie
 
@@ -12,30 +13,30 @@ returns c = λ d k h e. any-kind _ k (sym e ∙ c .if1 .taken)
 element-copy-out-from : tie.Need-element-copy-out-from
 element-copy-out-from c = search needs
 
-add-from : tie.Need-add-from
-add-from c = let b = caught-bounds (c .before .before .before .before .pre .0 .1) 0 (c .before .before .before .before .pre .1 (c .before .if1 .left)) in search needs
+mul-class-of : tie.Need-mul-class-of
+mul-class-of c = let b = caught-bounds (c .before .before .before .before .pre .0 .1) 0 (c .before .before .before .before .pre .1 (c .before .if1 .left)) in search needs
 
-mul-kind-of : tie.Need-mul-kind-of
-mul-kind-of c = let b = caught-bounds (c .before .before .before .before .pre .0 .1) 0 (c .before .before .before .before .pre .1 (c .before .if1 .left)) in search needs
+sub-class-of : tie.Need-sub-class-of
+sub-class-of c = let b = caught-bounds (c .before .before .before .before .pre .0 .1) 0 (c .before .before .before .before .pre .1 (c .before .if1 .left)) in search needs
 
-sub-kind-of : tie.Need-sub-kind-of
-sub-kind-of c = let b = caught-bounds (c .before .before .before .before .pre .0 .1) 0 (c .before .before .before .before .pre .1 (c .before .if1 .left)) in search needs
+part-class-of-start : tie.Need-part-class-of-start
+part-class-of-start c = let b = caught-bounds (c .before .before .before .before .pre .0 .1) 0 (c .before .before .before .before .pre .1 (c .before .if1 .left)) in search needs
 
-part-kind-of-start : tie.Need-part-kind-of-start
-part-kind-of-start c = let b = caught-bounds (c .before .before .before .before .pre .0 .1) 0 (c .before .before .before .before .pre .1 (c .before .if1 .left)) in search needs
+part-class-of-end : tie.Need-part-class-of-end
+part-class-of-end c = search needs
 
-part-kind-of-end : tie.Need-part-kind-of-end
-part-kind-of-end c = search needs
+class-of-requires : tie.Need-class-of-requires
+class-of-requires c κs = search needs
 
-kind-of-requires : tie.Need-kind-of-requires
-kind-of-requires c κs = let h = c .before .before .before .before .before .pre .0 .1 in let met = c .before .before .before .before .before .pre .1 (c .before .before .if1 .left) in (h .good, (_, caught-tail h 0 met, caught-sorted h 0 met))
+add-result : tie.Need-add-result
+add-result c = search needs
 
 returns-2 : tie.Need-returns-2
 returns-2 c =
     λ d k h e.
     let met = c .before .before .before .before .before .before .pre .1 (c .before .before .before .if1 .left) in
-    let s = caught-sorted h 0 met in
-    wanted-by _ _ (s .0) (s .1) k _ _ e (c .before .before .before .if1 .left) (c .kind-of .ensures _ (s .0) (caught-tail h 0 met) (s .1))
+    let s = caught-sort h 0 met in
+    wanted-by _ _ (s .1 .2 .0) (s .1 .2 .1) k _ _ e (c .before .before .before .if1 .left) (class-is _ _ s _ (c .class-of .ensures))
 
 pub is-wanted-spec : {M : Type 1} → statement M
 is-wanted-spec =
@@ -43,10 +44,10 @@ is-wanted-spec =
     (tie.spec
     returns
     element-copy-out-from
-    add-from
-    mul-kind-of
-    sub-kind-of
-    part-kind-of-start
-    part-kind-of-end
-    kind-of-requires
+    mul-class-of
+    sub-class-of
+    part-class-of-start
+    part-class-of-end
+    class-of-requires
+    add-result
     returns-2)

@@ -3,7 +3,7 @@ use mathlib.Core.Path.{refl}
 use native.Mathlib.Omega.{arith}
 use borrow.Author.Needs.{needs}
 use borrow.Author.Tests.{not-true, not-false}
-use Rattle.step.proofs.Added.{added-as}
+use Rattle.words.proofs.Runs.{appended, added-as}
 use Rattle.step.proofs.Split.{some-word, no-child, Split, split, child-bounds}
 use Rattle.step.proofs.Written.{refuses, writes}
 use Rattle.step.proofs.Absorbed.{absorbs-other, absorbs-outside, absorbs-other-child, absorbs-child, zero-few, zero-words}
@@ -55,7 +55,7 @@ same-length c = search needs
 returns-4 : tie.Need-returns-4
 returns-4 c = λ Γ.
     let zero = absorbs-child Γ (found (c .before .before .before .before .before .before)) (c .before .before .before .before .before .before .before .before .before .if1 .left) (c .before .before .before .before .if3 .left) in
-    writes _ _ _ _ _ zero zero-few refl (added-as zero-words (c .before .before .append-word .ensures))
+    writes _ _ _ _ _ zero zero-few refl (added-as zero-words (appended (c .before .before .append-word .ensures)))
 
 pub absorb-spec : {M : Type 1} → statement M
 absorb-spec =

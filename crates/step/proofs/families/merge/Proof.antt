@@ -5,8 +5,8 @@ use native.Mathlib.Omega.{arith}
 use borrow.Author.Needs.{needs}
 use borrow.Author.Tests.{not-true, not-false}
 use lib.ListN.{getD}
+use Rattle.words.proofs.Runs.{added-as}
 use Rattle.step.specs.Code.Families.{chainWord}
-use Rattle.step.proofs.Added.{added-as}
 use Rattle.step.proofs.Split.{some-word, no-child, Split, split, child-bounds}
 use Rattle.step.proofs.Written.{refuses, writes, exceeds}
 use Rattle.step.proofs.Merged.{merges-other, merges-outside, merges-other-child, merges-child, low-bytes, merged-many, merged-few, merged-words}

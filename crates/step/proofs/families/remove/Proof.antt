@@ -3,7 +3,7 @@ use mathlib.Core.Path.{refl}
 use native.Mathlib.Omega.{arith}
 use borrow.Author.Needs.{needs}
 use borrow.Author.Tests.{not-true, not-false}
-use Rattle.step.proofs.Added.{added-as}
+use Rattle.words.proofs.Runs.{added-as}
 use Rattle.step.proofs.Split.{some-word, no-child, Split, split, child-bounds}
 use Rattle.step.proofs.Written.{refuses, writes}
 use Rattle.step.proofs.Removed.{removes-other, removes-outside, removes-other-child, removes-only, removes-child, removed-words, removed-few}

@@ -5,6 +5,7 @@ use native.Mathlib.Omega.{arith}
 use borrow.Author.Needs.{needs}
 use borrow.Author.Tests.{not-true, not-false}
 use lib.ListN.{getD}
+use Rattle.words.proofs.Runs.{appended}
 use Rattle.step.specs.Code.Families.{chainWord}
 use Rattle.step.proofs.Split.{some-word, no-child, Split, split, child-bounds}
 use Rattle.step.proofs.Next.{Next, next-child}
@@ -59,16 +60,16 @@ part-end-requires : tie.Need-part-end-requires
 part-end-requires c κs = search needs
 
 append-run-requires : tie.Need-append-run-requires
-append-run-requires c κs = omega (arith, child-bounds (found (c .before .before .before)))
+append-run-requires c κs = search needs
 
 append-run-requires-2 : tie.Need-append-run-requires-2
-append-run-requires-2 c κs = omega (arith, next (c .before .before .before .before .before) .within)
+append-run-requires-2 c κs = search needs
 
 append-run-requires-3 : tie.Need-append-run-requires-3
-append-run-requires-3 c κs = omega (arith, child-bounds (found (c .before .before .before .before .before .before .before .before .before .before .before)))
+append-run-requires-3 c κs = search needs
 
 append-run-requires-4 : tie.Need-append-run-requires-4
-append-run-requires-4 c κs = omega (arith, next (c .before .before .before .before .before .before .before .before .before .before .before .before .before) .within)
+append-run-requires-4 c κs = search needs
 
 same-length : tie.Need-same-length
 same-length c = search needs
@@ -77,7 +78,7 @@ returns-4 : tie.Need-returns-4
 returns-4 c = λ Γ.
     let s = found (c .before .before .before .before .before .before .before .before .before .before .before .before .before .before .before .before .before .before) in
     let n = next (c .before .before .before .before .before .before .before .before .before .before .before .before .before .before .before .before) in
-    let written = swapped-written s n (c .before .before .before .before .before .before .before .before .before .before .before .before .before .before .append-run .ensures) (c .before .before .before .before .before .before .before .before .before .before .append-run2 .ensures) (c .before .before .before .before .before .before .append-run3 .ensures) (c .before .before .append-run4 .ensures) in
+    let written = swapped-written s n (appended (c .before .before .before .before .before .before .before .before .before .before .before .before .before .before .append-run .ensures)) (appended (c .before .before .before .before .before .before .before .before .before .before .append-run2 .ensures)) (appended (c .before .before .before .before .before .before .append-run3 .ensures)) (appended (c .before .before .append-run4 .ensures)) in
     writes _ _ _ _ _ (swaps-children s n Γ (chained (c .before .before .before .before .before .before .before .before .before .before .before .before .before .before .before .before .before .before .before .before .before))) (swapped-few s n) refl written
 
 pub swap-spec : {M : Type 1} → statement M

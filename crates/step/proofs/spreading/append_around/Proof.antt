@@ -6,8 +6,7 @@ use native.Mathlib.Nat.{sub-zero}
 use lib.ListN.{length, take, drop}
 use borrow.Author.Needs.{needs}
 use Rattle.words.specs.Words.{Added}
-use Rattle.words.proofs.Runs.{added-both, to-end}
-use Rattle.step.proofs.Added.{added-as}
+use Rattle.words.proofs.Runs.{added-both, to-end, appended, added-as}
 use Rattle.step.proofs.spreading.append_around.Statement.{statement}
 use Rattle.step.proofs.spreading.append_around.Tie as tie
 
@@ -33,7 +32,7 @@ same-length c = search needs
 returns : tie.Need-returns
 returns c =
     let args = c .before .before .before .before .before .before .before .before .before .before .before .before .before .before .args in
-    around (args .ws .now) (args .start) (args .end) (args .from) (args .to) (c .before .before .before .before .before .before .before .before .before .before .append-run .ensures) (c .before .before .before .before .before .before .append-run2 .ensures) (c .before .before .append-run3 .ensures)
+    around (args .ws .now) (args .start) (args .end) (args .from) (args .to) (appended (c .before .before .before .before .before .before .before .before .before .before .append-run .ensures)) (appended (c .before .before .before .before .before .before .append-run2 .ensures)) (appended (c .before .before .append-run3 .ensures))
 
 pub append-around-spec : {M : Type 1} → statement M
 append-around-spec =

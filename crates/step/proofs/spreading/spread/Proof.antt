@@ -5,8 +5,7 @@ use Prim.Native.Nat.{_-_}
 use native.Mathlib.Omega.{arith}
 use borrow.Author.Needs.{needs}
 use borrow.Author.Tests.{not-true, not-false}
-use Rattle.words.proofs.Runs.{added-both}
-use Rattle.step.proofs.Added.{added-as}
+use Rattle.words.proofs.Runs.{added-both, appended, added-as}
 use Rattle.step.proofs.Split.{some-word, no-child, Split, split, child-bounds}
 use Rattle.step.proofs.Written.{refuses, writes}
 use Rattle.step.proofs.Spread.{spreads-other, spreads-outside, spreads-other-child, spreads-child, spread-words, spread-nodes-few}
@@ -75,8 +74,7 @@ add-next : tie.Need-add-next Inv-loop μ-loop
 add-next c = omega (arith, child-bounds (found (c .before .before .before .before .before .before .before)))
 
 loop-holds : tie.Need-loop-holds Inv-loop μ-loop
-loop-holds c =
-    let head = c .before .before .append-word .ensures in passed-none (found (c .before .before .before .before .before .before .before)) (omega (arith, head .end, head .size))
+loop-holds c = passed-none (found (c .before .before .before .before .before .before .before)) (omega (arith, c .before .before .append-word .ensures .0, c .before .before .append-word .kept .0))
 
 part-end-requires : tie.Need-part-end-requires Inv-loop μ-loop
 part-end-requires c κs = search needs
@@ -92,13 +90,13 @@ loop-again : tie.Need-loop-again Inv-loop μ-loop
 loop-again c = passed-more (c .before .before .before .before .before .before .loop .inv) (c .before .before .before .before .before .loop-test .taken) (c .before .before .before .before .part-end .ensures) (c .before .before .append-around .ensures)
 
 same-length : tie.Need-same-length Inv-loop μ-loop
-same-length c = omega (arith, c .before .loop .inv .written .size, c .before .before .before .before .append-word .ensures .size)
+same-length c = omega (arith, c .before .loop .inv .written .size, c .before .before .before .before .append-word .kept .0)
 
 returns-4 : tie.Need-returns-4 Inv-loop μ-loop
 returns-4 c = λ l s r w i P S R u e Γ.
     let p = c .before .loop .inv .split in
     let sum = c .before .before .before .before .before .before .before .if3 .left in
-    let whole = added-both (c .before .before .before .before .append-word .ensures) (passed-all (c .before .loop .inv) (c .loop-test .left)) in
+    let whole = added-both (appended (c .before .before .before .before .append-word .ensures)) (passed-all (c .before .loop .inv) (c .loop-test .left)) in
     writes _ _ _ _ _ (spreads-child Γ r w i P S u e p (c .before .before .before .before .before .before .before .before .before .before .before .before .if1 .left) sum) (spread-nodes-few p r) refl (added-as (spread-words p S R sum) whole)
 
 pub spread-spec : {M : Type 1} → statement M

@@ -9,10 +9,9 @@ use lib.Dec.{ltb}
 use lib.ListN.{length, drop, length-drop, length-take}
 use lib.Seq.{length-take-le}
 use Rattle.words.specs.Words.{Added}
-use Rattle.words.proofs.Runs.{added, to-end}
+use Rattle.words.proofs.Runs.{added, to-end, added-as}
 use Rattle.term.specs.Trees.{words, depth, level}
 use Rattle.step.specs.Code.Making.{Fresh}
-use Rattle.step.proofs.Added.{added-as}
 use Rattle.step.proofs.Limits.{end-inside, result-depth, place-level, seated, made-long, made-behind, made-deep, made-good}
 use Rattle.step.proofs.stepping.finish.Statement.{statement}
 use Rattle.step.proofs.stepping.finish.Tie as tie

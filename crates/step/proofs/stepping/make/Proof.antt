@@ -1,7 +1,7 @@
 -- The tests in their order; what each finds, the equation of a step says.
 use native.Mathlib.Omega.{arith}
 use borrow.Author.Needs.{needs}
-use Rattle.step.proofs.Stepped.{ruled, site, made-20, made-21, made-22, fine, finished}
+use Rattle.step.proofs.Stepped.{ruled, site, site-size, site-room, made-20, made-21, made-22, fine, finished}
 use Rattle.step.proofs.stepping.make.Statement.{statement}
 use Rattle.step.proofs.stepping.make.Tie as tie
 
@@ -26,6 +26,18 @@ refused-requires-2 c κs = search needs
 returns-2 : tie.Need-returns-2
 returns-2 c = λ x. made-21 x _ _ _ (c .before .before .before .before .before .before .before .before .before .before .pre .1) (ruled _ _ (c .before .before .before .before .before .row-of .ensures) (c .before .before .before .if1 .left)) (c .before .if2 .taken) (c .refused2 .ensures .0)
 
+mul-ws : tie.Need-mul-ws
+mul-ws c = search needs
+
+sub-ws : tie.Need-sub-ws
+sub-ws c = search needs
+
+part-ws-start : tie.Need-part-ws-start
+part-ws-start c = search needs
+
+part-ws-end : tie.Need-part-ws-end
+part-ws-end c = search needs
+
 part-end-requires : tie.Need-part-end-requires
 part-end-requires c κs = search needs
 
@@ -37,8 +49,9 @@ cast-rewrite-part-2 c = search needs
 
 rewrite-part-requires : tie.Need-rewrite-part-requires
 rewrite-part-requires c κs =
-    let k = ruled _ _ (c .before .before .before .before .before .before .before .before .row-of .ensures) (c .before .before .before .before .before .before .if1 .left) in
-    (site (c .before .before .before .before .before .before .before .before .before .before .before .before .before .pre .0) _ (omega (arith, c .before .before .before .before .if2 .left)) _ (c .before .before .before .part-end .ensures), (k .rule, k .lines))
+    let k = ruled _ _ (c .before .before .before .before .before .before .before .before .before .row-of .ensures) (c .before .before .before .before .before .before .before .if1 .left) in
+    let x = c .before .before .before .before .before .before .before .before .before .before .before .before .before .before .pre .0 in
+    ((site x _ (c .before .before .before .before .before .if2 .left), site-size x _ (c .before .before .before .before .before .if2 .left) _ (c .before .before .before .part-end .ensures)), (k .rule, k .lines))
 
 same-length : tie.Need-same-length
 same-length c = search needs
@@ -46,13 +59,16 @@ same-length c = search needs
 returns-3 : tie.Need-returns-3
 returns-3 c =
     λ x.
-    let k = ruled _ _ (c .before .before .before .before .before .before .before .before .before .before .before .before .before .row-of .ensures) (c .before .before .before .before .before .before .before .before .before .before .before .if1 .left) in
-    made-22 x _ k (c .before .before .before .before .before .before .before .before .before .if2 .left) _ (c .before .before .before .before .before .before .before .before .before .before .before .before .before .before .before .before .before .before .pre .1) _ (c .before .before .before .before .before .before .before .before .part-end .ensures) _ _ (c .before .before .before .before .rewrite-part .ensures) (c .if3 .taken)
+    let k = ruled _ _ (c .before .before .before .before .before .before .before .before .before .before .before .before .before .before .row-of .ensures) (c .before .before .before .before .before .before .before .before .before .before .before .before .if1 .left) in
+    made-22 x _ k (c .before .before .before .before .before .before .before .before .before .before .if2 .left) _ (c .before .before .before .before .before .before .before .before .before .before .before .before .before .before .before .before .before .before .before .pre .1) _ (c .before .before .before .before .before .before .before .before .part-end .ensures) _ _ (c .before .before .before .before .rewrite-part .ensures) (c .if3 .taken)
+
+add-finish : tie.Need-add-finish
+add-finish c = let r = site-room (c .before .before .before .before .before .before .before .before .before .before .before .before .before .before .before .before .before .before .before .pre .0) _ (c .before .before .before .before .before .before .before .before .before .before .if2 .left) _ (c .before .before .before .before .before .before .before .before .part-end .ensures) in search needs
 
 finish-requires : tie.Need-finish-requires
 finish-requires c κs =
-    let k = ruled _ _ (c .before .before .before .before .before .before .before .before .before .before .before .before .before .before .row-of .ensures) (c .before .before .before .before .before .before .before .before .before .before .before .before .if1 .left) in
-    fine (c .before .before .before .before .before .before .before .before .before .before .before .before .before .before .before .before .before .before .before .pre .0) _ k (c .before .before .before .before .before .before .before .before .before .before .if2 .left) _ (c .before .before .before .before .before .before .before .before .before .before .before .before .before .before .before .before .before .before .before .pre .1) _ (c .before .before .before .before .before .before .before .before .before .part-end .ensures) _ _ (c .before .before .before .before .before .rewrite-part .ensures) (c .before .if3 .left) .fresh
+    let k = ruled _ _ (c .before .before .before .before .before .before .before .before .before .before .before .before .before .before .before .row-of .ensures) (c .before .before .before .before .before .before .before .before .before .before .before .before .before .if1 .left) in
+    fine (c .before .before .before .before .before .before .before .before .before .before .before .before .before .before .before .before .before .before .before .before .pre .0) _ k (c .before .before .before .before .before .before .before .before .before .before .before .if2 .left) _ (c .before .before .before .before .before .before .before .before .before .before .before .before .before .before .before .before .before .before .before .before .pre .1) _ (c .before .before .before .before .before .before .before .before .before .part-end .ensures) _ _ (c .before .before .before .before .before .rewrite-part .ensures) (c .before .if3 .left) .fresh
 
 same-length-2 : tie.Need-same-length-2
 same-length-2 c = search needs
@@ -60,9 +76,9 @@ same-length-2 c = search needs
 returns-4 : tie.Need-returns-4
 returns-4 c =
     λ x.
-    let k = ruled _ _ (c .before .before .before .before .before .before .before .before .before .before .before .before .before .before .before .before .before .row-of .ensures) (c .before .before .before .before .before .before .before .before .before .before .before .before .before .before .before .if1 .left) in
-    let f = fine x _ k (c .before .before .before .before .before .before .before .before .before .before .before .before .before .if2 .left) _ (c .before .before .before .before .before .before .before .before .before .before .before .before .before .before .before .before .before .before .before .before .before .before .pre .1) _ (c .before .before .before .before .before .before .before .before .before .before .before .before .part-end .ensures) _ _ (c .before .before .before .before .before .before .before .before .rewrite-part .ensures) (c .before .before .before .before .if3 .left) in
-    finished x _ k (c .before .before .before .before .before .before .before .before .before .before .before .before .before .if2 .left) _ (c .before .before .before .before .before .before .before .before .before .before .before .before .before .before .before .before .before .before .before .before .before .before .pre .1) _ (c .before .before .before .before .before .before .before .before .before .before .before .before .part-end .ensures) _ _ (c .before .before .before .before .before .before .before .before .rewrite-part .ensures) f (c .before .before .finish .ensures (f .fresh))
+    let k = ruled _ _ (c .before .before .before .before .before .before .before .before .before .before .before .before .before .before .before .before .before .before .row-of .ensures) (c .before .before .before .before .before .before .before .before .before .before .before .before .before .before .before .before .if1 .left) in
+    let f = fine x _ k (c .before .before .before .before .before .before .before .before .before .before .before .before .before .before .if2 .left) _ (c .before .before .before .before .before .before .before .before .before .before .before .before .before .before .before .before .before .before .before .before .before .before .before .pre .1) _ (c .before .before .before .before .before .before .before .before .before .before .before .before .part-end .ensures) _ _ (c .before .before .before .before .before .before .before .before .rewrite-part .ensures) (c .before .before .before .before .if3 .left) in
+    finished x _ k (c .before .before .before .before .before .before .before .before .before .before .before .before .before .before .if2 .left) _ (c .before .before .before .before .before .before .before .before .before .before .before .before .before .before .before .before .before .before .before .before .before .before .before .pre .1) _ (c .before .before .before .before .before .before .before .before .before .before .before .before .part-end .ensures) _ _ (c .before .before .before .before .before .before .before .before .rewrite-part .ensures) f (c .before .before .finish .ensures (f .fresh))
 
 pub make-spec : {M : Type 1} → statement M
 make-spec =
@@ -75,12 +91,17 @@ make-spec =
     cast-place
     refused-requires-2
     returns-2
+    mul-ws
+    sub-ws
+    part-ws-start
+    part-ws-end
     part-end-requires
     cast-rewrite-part
     cast-rewrite-part-2
     rewrite-part-requires
     same-length
     returns-3
+    add-finish
     finish-requires
     same-length-2
     returns-4)

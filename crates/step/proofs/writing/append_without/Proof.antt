@@ -1,7 +1,6 @@
 -- A word and two runs, one behind the other.
 use borrow.Author.Needs.{needs}
-use Rattle.words.proofs.Runs.{added-both, to-end}
-use Rattle.step.proofs.Added.{added-as}
+use Rattle.words.proofs.Runs.{added-both, to-end, appended, added-as}
 use Rattle.step.proofs.writing.append_without.Statement.{statement}
 use Rattle.step.proofs.writing.append_without.Tie as tie
 
@@ -20,9 +19,7 @@ same-length c = search needs
 returns : tie.Need-returns
 returns c =
     let args = c .before .before .before .before .before .before .before .before .before .before .before .before .before .before .args in
-    let word = c .before .before .before .before .before .before .before .before .before .before .append-word .ensures in
-    let front = c .before .before .before .before .before .before .append-run .ensures in
-    added-both word (added-both front (added-as (to-end (args .ws .now) (args .from)) (c .before .before .append-run2 .ensures)))
+    added-both (appended (c .before .before .before .before .before .before .before .before .before .before .append-word .ensures)) (added-both (appended (c .before .before .before .before .before .before .append-run .ensures)) (added-as (to-end (args .ws .now) (args .from)) (appended (c .before .before .append-run2 .ensures))))
 
 pub append-without-spec : {M : Type 1} → statement M
 append-without-spec =

@@ -1,6 +1,6 @@
 -- Each test is one of the definition.
 use borrow.Author.Tests.{le-leb, lt-leb, not-true, not-false}
-use Rattle.typebook.specs.Lines.{shortBoth}
+use Rattle.typebook.specs.Code.Lines.{shortBoth}
 use Rattle.typing.proofs.rules.all_well.Statement.{statement}
 use Rattle.typing.proofs.rules.all_well.Tie as tie
 

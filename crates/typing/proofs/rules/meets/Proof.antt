@@ -4,7 +4,7 @@ use Prim.Native.Nat.{_/_}
 use native.Mathlib.Omega.{arith}
 use borrow.Author.Needs.{needs}
 use borrow.Author.Tests.{ne-eqb}
-use Rattle.typebook.specs.Lines.{met}
+use Rattle.typebook.specs.Code.Lines.{met}
 use Rattle.typing.proofs.Concluding.{placed, met-run}
 use Rattle.typing.proofs.rules.meets.Statement.{statement}
 use Rattle.typing.proofs.rules.meets.Tie as tie

@@ -3,7 +3,7 @@ use mathlib.Core.Path.{_∙_}
 use native.Mathlib.Omega.{arith}
 use borrow.Author.Needs.{needs}
 use borrow.Author.Tests.{eq-eqb, ne-eqb}
-use Rattle.typebook.specs.Lines.{alikeTo}
+use Rattle.typebook.specs.Code.Lines.{alikeTo}
 use Rattle.typing.proofs.Lying.{other-lengths, both-same}
 use Rattle.typing.proofs.sorts.are_alike.Statement.{statement}
 use Rattle.typing.proofs.sorts.are_alike.Tie as tie

@@ -1,0 +1,2 @@
+-- The laws of slices of a case.
+mod Slices

@@ -1,0 +1,2 @@
+-- What the functions on slices make of them.
+pub mod Slices

@@ -1,0 +1,4 @@
+-- The laws of the matcher.
+mod Walks
+mod Left
+pub mod Theorems

@@ -1,0 +1,3 @@
+-- The matcher: the words of a left side against the words of a term.
+pub mod Matching
+pub mod Statements

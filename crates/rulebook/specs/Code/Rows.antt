@@ -1,0 +1,93 @@
+-- The table of rules as the code holds it: a row of five numbers for each rule number, and the words of all equations one side behind the other. Both are made of `table` of `rules` Table,
+-- which is the one to believe.
+use mathlib.Core.Bool.{cond}
+use mathlib.Core.List.{List, [], _∷_, _++_}
+use mathlib.Core.Option.{Option, some, none}
+use Prim.Native.Nat.{ℕ, _+_, _*_, _/_}
+use lib.Dec.{eqb}
+use lib.ListN.{length}
+use Rattle.term.specs.Heads.{Label, word}
+use Rattle.rules.specs.Patterns.{Pattern, #_, first, second, _⟨⟩, _⟨_⟩, _⟨_∣_⟩}
+use Rattle.rules.specs.Table.{Kind, any, a-ket, a-bra, an-operator, Which, child, child-i, Summand, plain, scaled, Rule, _⇒_▷_, spreading, removing, absorbing, merging, collecting, swapping, Line, _∶_, table, ruleOf}
+use Rattle.rulebook.specs.declared.Row.{Row}
+
+-- ---- the words of a pattern: in document 01's encoding, with words of unknown heads for hole k (255:k), `first k` (254:k) and `second k` (253:k)
+unfoldable pub patternWords : Pattern → List ℕ
+patternWords (# k) = (255 * 256 + k) ∷ []
+patternWords (first k) = (254 * 256 + k) ∷ []
+patternWords (second k) = (253 * 256 + k) ∷ []
+patternWords (l ⟨⟩) = word l 0 ∷ []
+patternWords (l ⟨ p ⟩) = word l 1 ∷ patternWords p
+patternWords (l ⟨ p ∣ q ⟩) = word l 2 ∷ (patternWords p ++ patternWords q)
+
+-- both sides of an equation
+unfoldable pub ruleWords : Rule → List ℕ
+unfolding patternWords
+ruleWords (k ⇒ l ▷ r) = patternWords l ++ patternWords r
+ruleWords (spreading l w s r) = []
+ruleWords (removing l c) = []
+ruleWords absorbing = []
+ruleWords merging = []
+ruleWords (collecting u v) = []
+ruleWords swapping = []
+
+unfoldable pub wordsOf : List Line → List ℕ
+unfolding ruleWords
+wordsOf [] = []
+wordsOf ((n ∶ r) ∷ ls) = ruleWords r ++ wordsOf ls
+
+-- where the words of a rule begin
+unfoldable pub startIn : ℕ → List Line → ℕ
+unfolding ruleWords
+startIn n [] = 0
+startIn n ((k ∶ r) ∷ ls) = cond (eqb n k) 0 (length (ruleWords r) + startIn n ls)
+
+-- ---- numbers for what a rule is made of
+abbrev pub headOf : Label → ℕ
+headOf l = word l 0 / 256
+
+abbrev pub kindNumber : Kind → ℕ
+kindNumber any = 0
+kindNumber a-ket = 1
+kindNumber a-bra = 2
+kindNumber an-operator = 3
+
+-- the child that is spread over, by its number; 2 is child i
+abbrev pub whichNumber : Which → ℕ
+whichNumber (child k) = k
+whichNumber child-i = 2
+
+abbrev pub summandNumber : Summand → ℕ
+summandNumber plain = 0
+summandNumber scaled = 1
+
+-- ---- a row: the family, and what it asks
+-- 0 no rule; 1 an equation: where its words begin, how many its left and its right side have, the kind wanted; 2 spreading: the head, which child, the sum's head,
+-- the result's; 3 removing: the parent's head, the child's; 4 absorbing; 5 merging; 6 collecting: whether each summand is scaled; 7 swapping
+abbrev pub row : ℕ → ℕ → ℕ → ℕ → ℕ → Row
+row f a b c d = record { family = f; a = a; b = b; c = c; d = d }
+
+unfoldable pub rowFor : ℕ → Option Rule → Row
+unfolding patternWords
+rowFor at none = row 0 0 0 0 0
+rowFor at (some (k ⇒ l ▷ r)) = row 1 at (length (patternWords l)) (length (patternWords r)) (kindNumber k)
+rowFor at (some (spreading l w s r)) = row 2 (headOf l) (whichNumber w) (headOf s) (headOf r)
+rowFor at (some (removing l c)) = row 3 (headOf l) (headOf c) 0 0
+rowFor at (some absorbing) = row 4 0 0 0 0
+rowFor at (some merging) = row 5 0 0 0 0
+rowFor at (some (collecting u v)) = row 6 (summandNumber u) (summandNumber v) 0 0
+rowFor at (some swapping) = row 7 0 0 0 0
+
+-- the row of a rule's number
+unfoldable pub rowOf : ℕ → Row
+unfolding rowFor startIn
+rowOf n = rowFor (startIn n table) (ruleOf n)
+
+-- all words of the table
+unfoldable pub allWords : List ℕ
+unfolding wordsOf
+allWords = wordsOf table
+
+-- a row in hexadecimal digits: one for the family, three for a, two each for b, c and d
+unfoldable pub lineOf : Row → ℕ
+lineOf r = r .family * 68719476736 + r .a * 16777216 + r .b * 65536 + r .c * 256 + r .d

@@ -1,0 +1,7 @@
+-- The laws of the reading that the crates above cite.
+mod Steps
+mod Declared
+mod Digits
+mod Nodes
+pub mod Begun
+pub mod Theorems

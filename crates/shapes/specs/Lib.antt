@@ -1,0 +1,3 @@
+-- What is read off the words of a typed part.
+pub mod Reading
+pub mod Statements

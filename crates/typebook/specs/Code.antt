@@ -1,0 +1,3 @@
+-- How the code holds the typing rules: nothing here is needed to read what is claimed.
+pub mod Shapes
+pub mod Lines
