@@ -9,11 +9,17 @@ version=$(rt version)
 if [ "$version" != "$checked" ]; then
     echo "test.sh: rt version says '$version', and the proofs were last checked under '$checked'; a proof that fails may be the toolchain's doing" >&2
 fi
-(cd checker && cargo test --release --offline)
-rt fmt --check
 log=$(mktemp)
-trap 'rm "$log"' EXIT
-rt ci 2>&1 | tee "$log"
+tests=$(mktemp)
+trap 'rm "$log" "$tests"' EXIT
+rt fmt --check
+# Beside the first proofs, which wait for each other and leave a core free.
+(cd checker && cargo test --release --offline) > "$tests" 2>&1 &
+tested=$!
+# rt starts so many proofs at a time and waits for all of them; with one for each of two cores a core waits for the longer.
+RT_JOBS=${RT_JOBS:-4} rt ci 2>&1 | tee "$log"
+wait "$tested" || { cat "$tests"; exit 1; }
+cat "$tests"
 checker/compare.sh typing 1 10000
 checker/compare.sh step 1 10000
 checker/compare.sh run 1 10000

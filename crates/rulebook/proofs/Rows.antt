@@ -1,17 +1,17 @@
 -- The code's table is the definition's, and what a row says of its rule.
-use mathlib.Core.Path.{_≡_, refl, ap}
+use mathlib.Core.Path.{_≡_, refl, _∙_, ap}
 use mathlib.Core.Bool.{Bool, true, false, cond, _&&_, and-eq-true-iff}
 use mathlib.Core.List.{List, [], _∷_, _++_, append-assoc}
 use mathlib.Core.Option.{some, none}
-use Prim.Native.Nat.{ℕ, zero, suc, _+_, _/_, _%_, _≤_, _<_}
+use Prim.Native.Nat.{ℕ, zero, suc, _+_, _-_, _/_, _%_, _≤_, _<_}
 use native.Mathlib.Omega.{arith}
 use native.Mathlib.Decide.{decLt}
 use borrow.Author.Tests.{ltb-true, eqb-true, ne-eqb}
 use lib.Dec.{eqb, ltb}
 use lib.ListN.{length, take, drop, getD, length-append, length-drop}
 use lib.Seq.{drop-drop, drop-append-seam, drop-append-add, take-append-seam}
-use Rattle.words.specs.Listed.{allUpTo}
-use Rattle.words.proofs.Listed.{allUpTo-at}
+use Rattle.words.specs.Listed.{upTo, allUpTo}
+use Rattle.words.proofs.Listed.{upTo-read, allUpTo-at}
 use Rattle.term.specs.Heads.{word}
 use Rattle.rules.specs.Patterns.{Pattern, #_, first, second, _⟨⟩, _⟨_⟩, _⟨_∣_⟩}
 use Rattle.rules.specs.Table.{Kind, Rule, _⇒_▷_, Line, _∶_, table, find, ruleOf}
@@ -33,6 +33,12 @@ find-past m ((k ∶ r) ∷ ls) e n h =
 pub line-past : (n : ℕ) → 171 ≤ n → lineOf (rowOf n) ≡ 0
 unfolding lineOf rowOf ruleOf rowFor below
 line-past n h = rw (find-past 171 table refl n h)
+
+-- the rows from a number on, as many as one array holds
+pub line-from : (from n rule : ℕ) → from ≤ rule → rule < from + n → getD (upTo n (λ k. lineOf (rowOf (from + k)))) (rule - from) 0 ≡ lineOf (rowOf rule)
+line-from from n rule h l =
+    let z : from + (rule - from) ≡ rule = omega arith in
+    upTo-read n (λ k. lineOf (rowOf (from + k))) 0 (rule - from) (omega arith) ∙ rw z
 
 -- ---- a row is told by its digits: a computed test of every number
 abbrev rowIn : ℕ → Row

@@ -17,8 +17,9 @@ pub struct Row {
     pub d: u16,
 }
 
-// The row of each number from 0 to 170 in hexadecimal digits: one for the family, three for a, two each for b, c and d. A number that is no rule's has 0.
-const ROWS: [u64; 171] = [
+// The row of each number from 0 to 170 in hexadecimal digits: one for the family, three for a, two each for b, c and d. A number that is no rule's has 0. The rows stand in four
+// arrays, since a constant array is laid out word by word wherever it is read.
+const ROWS_FROM_0: [u64; 50] = [
     0x0000000000, // 0
     0x5000000000, // 1 FLATTEN
     0x1000020100, // 2 ADDSID
@@ -69,6 +70,9 @@ const ROWS: [u64; 171] = [
     0x10dd030303, // 47 SCRO0
     0x10e3050300, // 48 SCRO1
     0x0000000000, // 49
+];
+
+const ROWS_FROM_50: [u64; 50] = [
     0x10eb020100, // 50 ADDID
     0x6000000000, // 51 ADD0
     0x6000010000, // 52 ADD1
@@ -119,6 +123,9 @@ const ROWS: [u64; 171] = [
     0x0000000000, // 97
     0x0000000000, // 98
     0x0000000000, // 99
+];
+
+const ROWS_FROM_100: [u64; 50] = [
     0x11bd050200, // 100 MULK0
     0x11c4040200, // 101 MULK1
     0x11ca040100, // 102 MULK2
@@ -169,6 +176,9 @@ const ROWS: [u64; 171] = [
     0x0000000000, // 147
     0x0000000000, // 148
     0x0000000000, // 149
+];
+
+const ROWS_FROM_150: [u64; 21] = [
     0x12b5050300, // 150 MULO0
     0x12bd050300, // 151 MULO1
     0x12c5040100, // 152 MULO2
@@ -196,7 +206,19 @@ const ROWS: [u64; 171] = [
 fn line_of(rule: usize) -> u64
     ensures { λ r. ⌜ r ≡ lineOf (rowOf rule) ⌝ }
 {
-    if rule < 171 { ROWS[rule] } else { 0 }
+    if rule < 50 {
+        return ROWS_FROM_0[rule];
+    }
+    if rule < 100 {
+        return ROWS_FROM_50[rule - 50];
+    }
+    if rule < 150 {
+        return ROWS_FROM_100[rule - 100];
+    }
+    if rule < 171 {
+        return ROWS_FROM_150[rule - 150];
+    }
+    0
 }
 
 // The row of a rule, and one of zeros for a number that is no rule's.

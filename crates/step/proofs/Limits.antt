@@ -18,7 +18,7 @@ use Rattle.term.proofs.Scan.{part-length}
 use Rattle.term.proofs.Places.{place, subtree-inside, subtree-formed, replace-formed, words-replace, length-replace, level-replace, depth-replace, level-words, part-there}
 use Rattle.rules.specs.Steps.{few, few*, within, limited}
 use Rattle.rules.proofs.Formed.{formed-few}
-use Rattle.step.specs.declared.writing.Rewritten.{Rewritten}
+use Rattle.families.specs.declared.writing.Rewritten.{Rewritten}
 use Rattle.step.specs.Code.Making.{Seated, Fresh, Made}
 
 -- ---- few children at each node: of the whole where they are few in the new part

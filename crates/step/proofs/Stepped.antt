@@ -31,14 +31,14 @@ use Rattle.rules.proofs.Formed.{typed-formed}
 use Rattle.rules.proofs.Rules.{decides}
 use Rattle.rulebook.specs.declared.Row.{Row}
 use Rattle.rulebook.specs.Code.Rows.{rowOf}
-use Rattle.step.specs.declared.writing.Rewritten.{Rewritten}
+use Rattle.families.specs.declared.writing.Rewritten.{Rewritten}
+use Rattle.families.specs.Writing.{Writes}
+use Rattle.families.proofs.Written.{Way, refused, done, exceeded, way, way-size}
+use Rattle.families.proofs.Lines.{Ruled, unruled}
 use Rattle.step.specs.Code.Making.{Termed, Fresh, Made}
-use Rattle.step.specs.Code.Site.{Site, Lined}
-use Rattle.step.specs.Code.Writing.{Writes}
-use Rattle.step.proofs.Dispatched.{lined, no-line, some-line}
+use Rattle.step.specs.Code.Site.{Site}
 use Rattle.step.proofs.Limits.{too-many}
 use Rattle.step.proofs.Sited.{site-end}
-use Rattle.step.proofs.Written.{Way, refused, done, exceeded, way, way-size}
 
 -- ---- the tests of `stepOf`
 module _ (Γ : Context) (t : Tree) (s : Step) where
@@ -59,26 +59,6 @@ module _ (Γ : Context) (t : Tree) (s : Step) where
       step-limited : {q : Tree} → rewrite Γ r (s .i) (s .j) p ≡ some q → stepOf Γ t s ≡ limited t (replace t (s .place) q)
       unfolding stepOf byRule atPlace atPart
       step-limited e = rw (rule, there, e)
-
--- ---- the rule of a row
-pub record Ruled (row : Row) (n : ℕ) : Type 0 where
-  pub rule : Rule
-  pub is : ruleOf n ≡ some rule
-  pub lines : Lined row rule
-
-ruled-by : (n : ℕ) (row : Row) → row ≡ rowOf n → row .family ≢ 0 → (o : Option Rule) → ruleOf n ≡ o → Ruled row n
-ruled-by n row e h none f = absurd (h (ap (λ (x : Row). x .family) e ∙ no-line n f))
-ruled-by n row e h (some r) f = record { rule = r; is = f; lines = lined n r row f e }
-
-pub ruled : (n : ℕ) (row : Row) → row ≡ rowOf n → row .family ≢ 0 → Ruled row n
-ruled n row e h = ruled-by n row e h (ruleOf n) refl
-
-unruled-by : (n : ℕ) (row : Row) → row ≡ rowOf n → row .family ≡ 0 → (o : Option Rule) → ruleOf n ≡ o → ruleOf n ≡ none
-unruled-by n row e h none f = f
-unruled-by n row e h (some r) f = absurd (some-line (lined n r row f e) h)
-
-unruled : (n : ℕ) (row : Row) → row ≡ rowOf n → row .family ≡ 0 → ruleOf n ≡ none
-unruled n row e h = unruled-by n row e h (ruleOf n) refl
 
 -- ---- the part at a place
 outside-by : (t : Tree) (k : ℕ) → length (words t) ≤ k → (o : Subtree) → subtree t k ≡ o → subtree t k ≡ outside
@@ -167,12 +147,11 @@ module _ {ds term : List ℕ} (x : Termed ds term) (s : Step) where
     made-21 k h = refused-by 21 (step-21 (contextIn ds) (x .tree) s (k .is) (outside-by (x .tree) (s .place) (rw (x .is) h) _ refl)) (omega arith)
 
   -- what rewriting a part promises of the scratch slice
-  abbrev Promise : Row → ℕ → List ℕ → List ℕ → Rewritten → Type 0
-  Promise row end old out r =
-      (z : Site ds (take (length term - s .place) (drop (s .place) term))) (rule : Rule) → end ≡ length (words (z .tree)) → Lined row rule → Writes (rewrite (contextIn ds) rule (s .i) (s .j) (z .tree)) old 0 out r
+  abbrev Promise : List ℕ → List ℕ → Rewritten → Type 0
+  Promise old out r =
+      (z : Site ds (take (length term - s .place) (drop (s .place) term))) (rule : Rule) → ruleOf (s .rule) ≡ some rule → Writes (rewrite (contextIn ds) rule (s .i) (s .j) (z .tree)) old 0 out r
 
-  module _ {row : Row} (k : Ruled row (s .rule)) (inside : s .place < length term) (old : List ℕ) (size : length old ≡ maxWords) (end : ℕ) (ends : end ≡ 0 + length (part (take (length term - s .place) (drop (s .place) term)) 0))
-      (out : List ℕ) (r : Rewritten) (promise : Promise row end old out r) where
+  module _ {row : Row} (k : Ruled row (s .rule)) (inside : s .place < length term) (old : List ℕ) (size : length old ≡ maxWords) (out : List ℕ) (r : Rewritten) (promise : Promise old out r) where
     abbrev here : Tree
     here = place (x .tree) (s .place) (within-words x (s .place) inside) .here
 
@@ -183,7 +162,7 @@ module _ {ds term : List ℕ} (x : Termed ds term) (s : Step) where
     is-there = there x (s .place) inside
 
     its-way : Way old 0 out r result
-    its-way = way result (rw (site-tree x (s .place) inside) at (promise (site x (s .place) inside) (k .rule) (site-size x (s .place) inside end ends) (k .lines)))
+    its-way = way result (rw (site-tree x (s .place) inside) at (promise (site x (s .place) inside) (k .rule) (k .is)))
 
     out-size : length out ≡ maxWords
     out-size = way-size its-way ∙ size
@@ -200,12 +179,6 @@ module _ {ds term : List ℕ} (x : Termed ds term) (s : Step) where
     pub made-22 : r .code ≢ 0 → MadeBy out r
     made-22 = made-22-by its-way refl
 
-    -- and where it did not
-    pub record Fine : Type 0 where
-      pub fresh : Fresh term (s .place) (s .place + end) out (r .end)
-      same : fresh .tree ≡ x .tree
-      steps : after ≡ limited (fresh .tree) (replace (fresh .tree) (s .place) (fresh .result))
-
     result-formed : (q : Tree) → result ≡ some q → few q ≡ true → Formed q
     result-formed q e f =
         let W = well-formed ds (x .good) in
@@ -214,33 +187,40 @@ module _ {ds term : List ℕ} (x : Termed ds term) (s : Step) where
         let i = decides (contextIn ds) W (s .rule) (k .rule) (k .is) (s .i) (s .j) here q formed (p .0) (p .1) .0 e in
         typed-formed W (rule-keeps W (s .rule) (k .rule) (k .is) (s .i) (s .j) here q (p .0) i (p .1)) f
 
-    fresh-of : (q : Tree) → result ≡ some q → few q ≡ true → Added old 0 (words q) out (r .end) → Fresh term (s .place) (s .place + end) out (r .end)
-    fresh-of q e f a =
-        record {
-          tree = x .tree;
-          is = x .is;
-          short = rw (← x .is) (x .typed .form .short);
-          formed = x .typed .form .formed;
-          shallow = x .typed .form .shallow;
-          part = here;
-          there = is-there;
-          ends = ap (λ (n : ℕ). s .place + n) (rw (site-tree x (s .place) inside) at (site-size x (s .place) inside end ends));
-          result = q;
-          result-formed = result-formed q e f;
-          size = out-size;
-          new-end = rw (size, zero-add) at (a .end);
-          written = λ l. let n : r .end ≡ 0 + length (words q) = omega (arith, a .end, size) in rw n (a .front (omega (arith, size)));
-        }
+    -- and where it did not, with the part's end
+    module _ (end : ℕ) (ends : end ≡ 0 + length (part (take (length term - s .place) (drop (s .place) term)) 0)) where
+      pub record Fine : Type 0 where
+        pub fresh : Fresh term (s .place) (s .place + end) out (r .end)
+        same : fresh .tree ≡ x .tree
+        steps : after ≡ limited (fresh .tree) (replace (fresh .tree) (s .place) (fresh .result))
 
-    fine-by : {o : Option Tree} → Way old 0 out r o → result ≡ o → r .code ≡ 0 → Fine
-    unfolding fresh-of
-    fine-by (refused c l) e z = absurd (omega (arith, c, z))
-    fine-by (done q f c a) e z = record { fresh = fresh-of q e f a; same = refl; steps = step-limited (contextIn ds) (x .tree) s (k .is) is-there e }
-    fine-by (exceeded q f c l) e z = absurd (omega (arith, c, z))
+      fresh-of : (q : Tree) → result ≡ some q → few q ≡ true → Added old 0 (words q) out (r .end) → Fresh term (s .place) (s .place + end) out (r .end)
+      fresh-of q e f a =
+          record {
+            tree = x .tree;
+            is = x .is;
+            short = rw (← x .is) (x .typed .form .short);
+            formed = x .typed .form .formed;
+            shallow = x .typed .form .shallow;
+            part = here;
+            there = is-there;
+            ends = ap (λ (n : ℕ). s .place + n) (rw (site-tree x (s .place) inside) at (site-size x (s .place) inside end ends));
+            result = q;
+            result-formed = result-formed q e f;
+            size = out-size;
+            new-end = rw (size, zero-add) at (a .end);
+            written = λ l. let n : r .end ≡ 0 + length (words q) = omega (arith, a .end, size) in rw n (a .front (omega (arith, size)));
+          }
 
-    pub fine : r .code ≡ 0 → Fine
-    fine = fine-by its-way refl
+      fine-by : {o : Option Tree} → Way old 0 out r o → result ≡ o → r .code ≡ 0 → Fine
+      unfolding fresh-of
+      fine-by (refused c l) e z = absurd (omega (arith, c, z))
+      fine-by (done q f c a) e z = record { fresh = fresh-of q e f a; same = refl; steps = step-limited (contextIn ds) (x .tree) s (k .is) is-there e }
+      fine-by (exceeded q f c l) e z = absurd (omega (arith, c, z))
 
-    pub finished : {out′ : List ℕ} {r′ : Rewritten} (f : Fine)
-        → Made (f .fresh .tree) (limited (f .fresh .tree) (replace (f .fresh .tree) (s .place) (f .fresh .result))) (s .place) out′ r′ → MadeBy out′ r′
-    finished f m = rw (f .steps, ← f .same) m
+      pub fine : r .code ≡ 0 → Fine
+      fine = fine-by its-way refl
+
+      pub finished : {out′ : List ℕ} {r′ : Rewritten} (f : Fine)
+          → Made (f .fresh .tree) (limited (f .fresh .tree) (replace (f .fresh .tree) (s .place) (f .fresh .result))) (s .place) out′ r′ → MadeBy out′ r′
+      finished f m = rw (f .steps, ← f .same) m

@@ -24,7 +24,7 @@ use Rattle.rules.specs.Outcomes.{Outcome, good, no-rule, no-place, no-instance,
 use Rattle.rules.proofs.Steps.{step-decided}
 use Rattle.lent.specs.declared.steps.Step.{Step}
 use Rattle.step.specs.declared.single.Answer.{Answer}
-use Rattle.step.specs.declared.writing.Rewritten.{Rewritten}
+use Rattle.families.specs.declared.writing.Rewritten.{Rewritten}
 use Rattle.lent.specs.Lent.{asked}
 use Rattle.step.specs.Answers.{held, stepIn, refusal, stepped, answerTo, wordsLeft}
 use Rattle.step.specs.Code.Making.{Termed, Made}

@@ -1,7 +1,4 @@
 -- How the code does it: nothing here is needed to read the promise of the entries.
-pub mod Children
-pub mod Writing
-pub mod Families
 pub mod Building
 pub mod Site
 pub mod Making

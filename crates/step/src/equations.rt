@@ -1,7 +1,7 @@
 // The rules that are one equation: the part is matched against the left side, and the right side is built.
 use crate::building::build_side;
-use crate::writing::Rewritten;
-use crate::writing::refused;
+use families::writing::Rewritten;
+use families::writing::refused;
 use matcher::Match;
 use matcher::match_words;
 use rulebook::Row;
@@ -18,7 +18,7 @@ ghost use Rattle.rules.specs.Rewrite.{sortOf, wanted, holes, rewrite};
 ghost use Rattle.rulebook.specs.Code.Rows.{kindNumber};
 ghost use Rattle.step.specs.Code.Building.{Caught};
 ghost use Rattle.step.specs.Code.Site.{Site, Equation};
-ghost use Rattle.step.specs.Code.Writing.{Writes};
+ghost use Rattle.families.specs.Writing.{Writes};
 
 // Whether the part in hole 0 is of the kind that a rule wants, where it wants one.
 fn is_wanted(ds: &[u16], ws: &[u16], found: Match, kind: u16) -> bool

@@ -1,12 +1,7 @@
 mod building;
-mod children;
-mod collecting;
 mod equations;
-mod families;
 mod rewriting;
 pub mod run;
 mod running;
 pub mod single;
-mod spreading;
 mod stepping;
-mod writing;

@@ -1,10 +1,9 @@
 // A step on a typed term: the result is made apart, so that a refusal moves nothing.
 use crate::rewriting::rewrite_part;
-use crate::writing::Rewritten;
-use crate::writing::refused;
+use families::writing::Rewritten;
+use families::writing::refused;
 use lent::steps::Step;
 use rulebook::row_of;
-use term::parts::part_end;
 use term::terms::depth_at;
 use term::terms::level_at;
 use words::append;
@@ -73,7 +72,8 @@ fn make(ds: &[u16], term: &[u16], s: Step, out: &mut [u16]) -> Rewritten
     requires { ⌜ Termed (now ds) (now term) × (length (now out) ≡ 4096) ⌝ }
     ensures { λ r. ⌜ ((x : Termed (now (ds .entry)) (now (term .entry))) → Made (x .tree) (stepOf (contextIn (now (ds .entry))) (x .tree) (asked s)) (s .place) (now (out .exit)) r) ⌝ }
 {
-    let row = row_of(s.rule as usize);
+    let rule = s.rule as usize;
+    let row = row_of(rule);
     if row.family == 0 {
         return refused(20);
     }
@@ -82,12 +82,14 @@ fn make(ds: &[u16], term: &[u16], s: Step, out: &mut [u16]) -> Rewritten
         return refused(21);
     }
     let ws = &term[place..];
-    let end = part_end(ws, 0);
-    let made = rewrite_part(ds, ws, end, row, s.i as usize, s.j as usize, out);
+    let made = rewrite_part(ds, ws, rule, row, s.i as usize, s.j as usize, out);
     if made.code != 0 {
-        return made;
+        return Rewritten {
+            code: made.code,
+            end: made.end,
+        };
     }
-    finish(term, place, place + end, made.end, out)
+    finish(term, place, place + made.size, made.end, out)
 }
 
 // Puts the words of a result from the place on into their slice, which had zeros behind its first `old` words, and zeros behind them.

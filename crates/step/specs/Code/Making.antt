@@ -11,7 +11,7 @@ use Rattle.types.specs.Sorts.{Sort}
 use Rattle.types.specs.Rules.{Typed}
 use Rattle.declarations.specs.Declarations.{contextIn, goodDeclarations}
 use Rattle.rules.specs.Steps.{Stepped, few}
-use Rattle.step.specs.declared.writing.Rewritten.{Rewritten}
+use Rattle.families.specs.declared.writing.Rewritten.{Rewritten}
 
 -- the words of a typed term, under good declarations
 pub record Termed (ds term : List ℕ) : Type 0 where

@@ -13,7 +13,7 @@ use Rattle.step.specs.Code.Building.{pieces}
 use Rattle.step.specs.Code.Site.{Site, Equation}
 use Rattle.step.proofs.Equated.{left-side, right-side, left-size, right-made, sides-room, kind-wanted, few-kinds, Caughts, found-in, found-none, right-asks, kind-asks, few-fill, no-index, no-second-index, no-left, other-kind, equated}
 use Rattle.step.proofs.Right.{right-words}
-use Rattle.step.proofs.Written.{refuses, writes}
+use Rattle.families.proofs.Written.{refuses, writes}
 use Rattle.step.proofs.equations.equate.Statement.{statement}
 use Rattle.step.proofs.equations.equate.Tie as tie
 
@@ -33,13 +33,13 @@ refused-requires : tie.Need-refused-requires
 refused-requires c κs = search needs
 
 returns : tie.Need-returns
-returns c = λ s e. refuses _ _ _ _ (no-index _ _ _ _ _ _ _ (c .before .if1 .taken)) (c .refused .ensures .0) refl
+returns c = λ s e. refuses _ _ _ _ (no-index _ _ _ _ _ _ _ (c .before .if1 .taken)) (c .refused .ensures) refl
 
 refused-requires-2 : tie.Need-refused-requires-2
 refused-requires-2 c κs = search needs
 
 returns-2 : tie.Need-returns-2
-returns-2 c = λ s e. refuses _ _ _ _ (no-second-index _ _ _ _ _ _ _ (c .before .before .if1 .left) (c .before .if2 .taken)) (c .refused2 .ensures .0) refl
+returns-2 c = λ s e. refuses _ _ _ _ (no-second-index _ _ _ _ _ _ _ (c .before .before .if1 .left) (c .before .if2 .taken)) (c .refused2 .ensures) refl
 
 cast-copy-from : tie.Need-cast-copy-from
 cast-copy-from c = search needs
@@ -71,7 +71,7 @@ refused-requires-3 c κs = search needs
 returns-3 : tie.Need-returns-3
 returns-3 c =
     λ s e.
-    refuses _ _ _ _ (no-left _ _ _ _ _ _ _ (c .before .before .before .before .before .before .before .before .before .before .before .before .if1 .left) (c .before .before .before .before .before .before .before .before .before .before .before .if2 .left) (found-none (e .number) (e .rule) s (walked (c .before .before .before) s e) (not-true _ (c .before .if3 .taken)))) (c .refused3 .ensures .0) refl
+    refuses _ _ _ _ (no-left _ _ _ _ _ _ _ (c .before .before .before .before .before .before .before .before .before .before .before .before .if1 .left) (c .before .before .before .before .before .before .before .before .before .before .before .if2 .left) (found-none (e .number) (e .rule) s (walked (c .before .before .before) s e) (not-true _ (c .before .if3 .taken)))) (c .refused3 .ensures) refl
 
 is-wanted-requires : tie.Need-is-wanted-requires
 is-wanted-requires c κs =
@@ -87,7 +87,7 @@ returns-4 c =
     λ s e.
     let f = found (c .before .before .before) s e in
     let w = sym (c .before .before .is-wanted .ensures (f .trees) (e .kind) (f .held) (kind-wanted e)) ∙ not-true _ (c .before .if4 .taken) in
-    refuses _ _ _ _ (other-kind _ _ _ _ _ _ _ (c .before .before .before .before .before .before .before .before .before .before .before .before .before .before .if1 .left) (c .before .before .before .before .before .before .before .before .before .before .before .before .before .if2 .left) (f .trees) (f .matches) w) (c .refused4 .ensures .0) refl
+    refuses _ _ _ _ (other-kind _ _ _ _ _ _ _ (c .before .before .before .before .before .before .before .before .before .before .before .before .before .before .if1 .left) (c .before .before .before .before .before .before .before .before .before .before .before .before .before .if2 .left) (f .trees) (f .matches) w) (c .refused4 .ensures) refl
 
 add-build-side : tie.Need-add-build-side
 add-build-side c = search needs

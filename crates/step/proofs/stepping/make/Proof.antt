@@ -1,12 +1,12 @@
 -- The tests in their order; what each finds, the equation of a step says.
-use native.Mathlib.Omega.{arith}
 use borrow.Author.Needs.{needs}
-use Rattle.step.proofs.Stepped.{ruled, site, site-size, site-room, made-20, made-21, made-22, fine, finished}
+use Rattle.families.proofs.Lines.{ruled}
+use Rattle.step.proofs.Stepped.{site, site-room, made-20, made-21, made-22, fine, finished}
 use Rattle.step.proofs.stepping.make.Statement.{statement}
 use Rattle.step.proofs.stepping.make.Tie as tie
 
-cast-row-of : tie.Need-cast-row-of
-cast-row-of c = search needs
+cast-rule : tie.Need-cast-rule
+cast-rule c = search needs
 
 row-of-requires : tie.Need-row-of-requires
 row-of-requires c κs = search needs
@@ -38,9 +38,6 @@ part-ws-start c = search needs
 part-ws-end : tie.Need-part-ws-end
 part-ws-end c = search needs
 
-part-end-requires : tie.Need-part-end-requires
-part-end-requires c κs = search needs
-
 cast-rewrite-part : tie.Need-cast-rewrite-part
 cast-rewrite-part c = search needs
 
@@ -48,10 +45,7 @@ cast-rewrite-part-2 : tie.Need-cast-rewrite-part-2
 cast-rewrite-part-2 c = search needs
 
 rewrite-part-requires : tie.Need-rewrite-part-requires
-rewrite-part-requires c κs =
-    let k = ruled _ _ (c .before .before .before .before .before .before .before .before .before .row-of .ensures) (c .before .before .before .before .before .before .before .if1 .left) in
-    let x = c .before .before .before .before .before .before .before .before .before .before .before .before .before .before .pre .0 in
-    ((site x _ (c .before .before .before .before .before .if2 .left), site-size x _ (c .before .before .before .before .before .if2 .left) _ (c .before .before .before .part-end .ensures)), (k .rule, k .lines))
+rewrite-part-requires c κs = (site (c .before .before .before .before .before .before .before .before .before .before .before .before .before .pre .0) _ (c .before .before .before .before .if2 .left), c .before .before .before .before .before .before .before .before .row-of .ensures)
 
 same-length : tie.Need-same-length
 same-length c = search needs
@@ -59,16 +53,17 @@ same-length c = search needs
 returns-3 : tie.Need-returns-3
 returns-3 c =
     λ x.
-    let k = ruled _ _ (c .before .before .before .before .before .before .before .before .before .before .before .before .before .before .row-of .ensures) (c .before .before .before .before .before .before .before .before .before .before .before .before .if1 .left) in
-    made-22 x _ k (c .before .before .before .before .before .before .before .before .before .before .if2 .left) _ (c .before .before .before .before .before .before .before .before .before .before .before .before .before .before .before .before .before .before .before .pre .1) _ (c .before .before .before .before .before .before .before .before .part-end .ensures) _ _ (c .before .before .before .before .rewrite-part .ensures) (c .if3 .taken)
+    let k = ruled _ _ (c .before .before .before .before .before .before .before .before .before .before .before .before .before .row-of .ensures) (c .before .before .before .before .before .before .before .before .before .before .before .if1 .left) in
+    made-22 x _ k (c .before .before .before .before .before .before .before .before .before .if2 .left) _ (c .before .before .before .before .before .before .before .before .before .before .before .before .before .before .before .before .before .before .pre .1) _ _ (c .before .before .before .before .rewrite-part .ensures .0) (c .if3 .taken)
 
 add-finish : tie.Need-add-finish
-add-finish c = let r = site-room (c .before .before .before .before .before .before .before .before .before .before .before .before .before .before .before .before .before .before .before .pre .0) _ (c .before .before .before .before .before .before .before .before .before .before .if2 .left) _ (c .before .before .before .before .before .before .before .before .part-end .ensures) in search needs
+add-finish c = let r = site-room (c .before .before .before .before .before .before .before .before .before .before .before .before .before .before .before .before .before .before .before .pre .0) _ (c .before .before .before .before .before .before .before .before .before .before .if2 .left) _ (c .before .before .before .before .before .rewrite-part .ensures .1) in search needs
 
 finish-requires : tie.Need-finish-requires
 finish-requires c κs =
     let k = ruled _ _ (c .before .before .before .before .before .before .before .before .before .before .before .before .before .before .before .row-of .ensures) (c .before .before .before .before .before .before .before .before .before .before .before .before .before .if1 .left) in
-    fine (c .before .before .before .before .before .before .before .before .before .before .before .before .before .before .before .before .before .before .before .before .pre .0) _ k (c .before .before .before .before .before .before .before .before .before .before .before .if2 .left) _ (c .before .before .before .before .before .before .before .before .before .before .before .before .before .before .before .before .before .before .before .before .pre .1) _ (c .before .before .before .before .before .before .before .before .before .part-end .ensures) _ _ (c .before .before .before .before .before .rewrite-part .ensures) (c .before .if3 .left) .fresh
+    let made = c .before .before .before .before .before .before .rewrite-part .ensures in
+    fine (c .before .before .before .before .before .before .before .before .before .before .before .before .before .before .before .before .before .before .before .before .pre .0) _ k (c .before .before .before .before .before .before .before .before .before .before .before .if2 .left) _ (c .before .before .before .before .before .before .before .before .before .before .before .before .before .before .before .before .before .before .before .before .pre .1) _ _ (made .0) _ (made .1) (c .before .before .if3 .left) .fresh
 
 same-length-2 : tie.Need-same-length-2
 same-length-2 c = search needs
@@ -77,14 +72,15 @@ returns-4 : tie.Need-returns-4
 returns-4 c =
     λ x.
     let k = ruled _ _ (c .before .before .before .before .before .before .before .before .before .before .before .before .before .before .before .before .before .before .row-of .ensures) (c .before .before .before .before .before .before .before .before .before .before .before .before .before .before .before .before .if1 .left) in
-    let f = fine x _ k (c .before .before .before .before .before .before .before .before .before .before .before .before .before .before .if2 .left) _ (c .before .before .before .before .before .before .before .before .before .before .before .before .before .before .before .before .before .before .before .before .before .before .before .pre .1) _ (c .before .before .before .before .before .before .before .before .before .before .before .before .part-end .ensures) _ _ (c .before .before .before .before .before .before .before .before .rewrite-part .ensures) (c .before .before .before .before .if3 .left) in
-    finished x _ k (c .before .before .before .before .before .before .before .before .before .before .before .before .before .before .if2 .left) _ (c .before .before .before .before .before .before .before .before .before .before .before .before .before .before .before .before .before .before .before .before .before .before .before .pre .1) _ (c .before .before .before .before .before .before .before .before .before .before .before .before .part-end .ensures) _ _ (c .before .before .before .before .before .before .before .before .rewrite-part .ensures) f (c .before .before .finish .ensures (f .fresh))
+    let made = c .before .before .before .before .before .before .before .before .before .rewrite-part .ensures in
+    let f = fine x _ k (c .before .before .before .before .before .before .before .before .before .before .before .before .before .before .if2 .left) _ (c .before .before .before .before .before .before .before .before .before .before .before .before .before .before .before .before .before .before .before .before .before .before .before .pre .1) _ _ (made .0) _ (made .1) (c .before .before .before .before .before .if3 .left) in
+    finished x _ k (c .before .before .before .before .before .before .before .before .before .before .before .before .before .before .if2 .left) _ (c .before .before .before .before .before .before .before .before .before .before .before .before .before .before .before .before .before .before .before .before .before .before .before .pre .1) _ _ (made .0) _ (made .1) f (c .before .before .finish .ensures (f .fresh))
 
 pub make-spec : {M : Type 1} → statement M
 make-spec =
     tie.close
     (tie.spec
-    cast-row-of
+    cast-rule
     row-of-requires
     refused-requires
     returns
@@ -95,7 +91,6 @@ make-spec =
     sub-ws
     part-ws-start
     part-ws-end
-    part-end-requires
     cast-rewrite-part
     cast-rewrite-part-2
     rewrite-part-requires

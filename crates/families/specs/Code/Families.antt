@@ -1,0 +1,70 @@
+-- What the functions of the families promise: what `rewrite` says, for the labels that their numbers stand for.
+use mathlib.Core.Path.{_≡_}
+use mathlib.Core.Bool.{Bool, true, _||_}
+use mathlib.Core.List.{List}
+use Prim.Native.Nat.{ℕ, _/_, _<_}
+use lib.Dec.{eqb}
+use Rattle.term.specs.Heads.{Label, word}
+use Rattle.term.specs.Parts.{parse, treeIn}
+use Rattle.types.specs.Sorts.{Context}
+use Rattle.rules.specs.Patterns.{Pattern}
+use Rattle.rules.specs.Table.{Kind, Rule, Which, child, child-i, Summand, _⇒_▷_, spreading, removing, absorbing, merging, collecting, swapping}
+use Rattle.rules.specs.Instances.{Chain}
+use Rattle.rules.specs.Rewrite.{nameless, place, usable, rewrite}
+use Rattle.rulebook.specs.declared.Row.{Row}
+use Rattle.rulebook.specs.Code.Rows.{headOf, whichNumber, summandNumber}
+use Rattle.families.specs.declared.writing.Rewritten.{Rewritten}
+use Rattle.families.specs.Writing.{Writes}
+
+-- a head without a name, and one with any number of children, by their numbers
+pub record Named (h : ℕ) (l : Label) : Type 0 where
+  pub number : h ≡ headOf l
+  pub nameless : nameless l ≡ true
+
+pub record Counted (h : ℕ) (l : Label) : Type 0 where
+  pub number : h ≡ headOf l
+  pub chain : Chain l
+
+-- 01, of 170: "of a 7, 8 or 20"
+abbrev pub chainWord : ℕ → Bool
+chainWord w = eqb (w / 256) 7 || (eqb (w / 256) 8 || eqb (w / 256) 20)
+
+module _ (ws out : List ℕ) (at : ℕ) (out′ : List ℕ) (r : Rewritten) where
+  -- what a rule with indices makes of the part is written, in every context
+  abbrev pub Does : Rule → ℕ → ℕ → Type 0
+  Does rule i j = (Γ : Context) → Writes (rewrite Γ rule i j (treeIn (parse ws))) out at out′ r
+
+  abbrev pub Removes : ℕ → ℕ → ℕ → Type 0
+  Removes parent gone i = (l c : Label) → Counted parent l → Named gone c → Does (removing l c) i 0
+
+  abbrev pub Absorbs : ℕ → Type 0
+  Absorbs i = Does absorbing i 0
+
+  abbrev pub Merges : ℕ → Type 0
+  Merges i = Does merging i 0
+
+  abbrev pub Swaps : ℕ → Type 0
+  Swaps i = Does swapping i 0
+
+  -- over the k-th child, which is the one that the rule wants
+  abbrev pub Spreads : ℕ → ℕ → ℕ → ℕ → Type 0
+  Spreads parent k sum result =
+      (l s r : Label) (w : Which) (i : ℕ) → Named parent l → Counted sum s → Counted result r → usable w i ≡ true → place w i ≡ k → Does (spreading l w s r) i 0
+
+  abbrev pub Collects : ℕ → ℕ → ℕ → ℕ → Type 0
+  Collects u v i j = (x y : Summand) → u ≡ summandNumber x → v ≡ summandNumber y → Does (collecting x y) i j
+
+-- the child that is spread over by its number, so that 2 can stand for child i
+abbrev pub Fixed : Which → Type 0
+Fixed (child k) = k < 2
+Fixed child-i = Unit {0}
+
+-- What a row says of its rule: the family, and the heads or the summands that it asks for
+pub data Lined (row : Row) : Rule → Type 0 where
+  an-equation : {k : Kind} {l r : Pattern} → row .family ≡ 1 → Lined row (k ⇒ l ▷ r)
+  a-spreading : {l s r : Label} {w : Which} → row .family ≡ 2 → Named (row .a) l → row .b ≡ whichNumber w → Fixed w → Counted (row .c) s → Counted (row .d) r → Lined row (spreading l w s r)
+  a-removing : {l c : Label} → row .family ≡ 3 → Counted (row .a) l → Named (row .b) c → Lined row (removing l c)
+  an-absorbing : row .family ≡ 4 → Lined row absorbing
+  a-merging : row .family ≡ 5 → Lined row merging
+  a-collecting : {u v : Summand} → row .family ≡ 6 → row .a ≡ summandNumber u → row .b ≡ summandNumber v → Lined row (collecting u v)
+  a-swapping : row .family ≡ 7 → Lined row swapping

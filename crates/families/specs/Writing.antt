@@ -1,0 +1,49 @@
+-- What a rule of a family makes of the part with which words begin, as the code equals it: what to believe is `Instance` of `rules` Instances, by way of `rewrite`.
+use mathlib.Core.Path.{_≡_}
+use mathlib.Core.Bool.{Bool, true, false, cond}
+use mathlib.Core.List.{List}
+use mathlib.Core.Option.{Option, some, none}
+use Prim.Native.Nat.{ℕ}
+use Rattle.words.specs.Words.{Added}
+use Rattle.term.specs.Trees.{Tree, Forest, none as no-tree, _▹_, words}
+use Rattle.term.specs.Parts.{parse}
+use Rattle.types.specs.Sorts.{Context}
+use Rattle.rules.specs.Table.{Rule, _⇒_▷_, spreading, removing, absorbing, merging, collecting, swapping, ruleOf}
+use Rattle.rules.specs.Rewrite.{rewrite}
+use Rattle.rules.specs.Steps.{few}
+use Rattle.families.specs.declared.writing.Rewritten.{Rewritten}
+use Rattle.families.specs.declared.writing.Replaced.{Replaced}
+
+-- every rule but an equation is a family's
+unfoldable pub isFamily : Rule → Bool
+isFamily (k ⇒ l ▷ r) = false
+isFamily (spreading l w s r) = true
+isFamily (removing l c) = true
+isFamily absorbing = true
+isFamily merging = true
+isFamily (collecting u v) = true
+isFamily swapping = true
+
+-- a rule of a family at the first of a row of parts
+unfoldable pub atFirst : Context → Option Rule → ℕ → ℕ → Forest → Option Tree
+atFirst Γ none i j f = none
+atFirst Γ (some rule) i j no-tree = none
+atFirst Γ (some rule) i j (t ▹ f) = cond (isFamily rule) (rewrite Γ rule i j t) none
+
+-- the rule of a number at the part with which words begin: no family asks for a type, so the entry promises this in every context
+unfoldable pub familyOf : Context → ℕ → ℕ → ℕ → List ℕ → Option Tree
+familyOf Γ n i j ws = atFirst Γ (ruleOf n) i j (parse ws)
+
+-- what is written: a result whose nodes have few children, behind the words that stand there; one that has a node of over 255 is refused with 23
+abbrev pub Wrote : Bool → List ℕ → List ℕ → ℕ → List ℕ → Rewritten → Type 0
+Wrote true ws out at out′ r = (r .code ≡ 0) × Added out at ws out′ (r .end)
+Wrote false ws out at out′ r = (r .code ≡ 23) × (r .end ≡ 0) × (out′ ≡ out)
+
+-- an answer without the size of the part
+abbrev pub written : Replaced → Rewritten
+written r = record { code = r .code; end = r .end }
+
+-- 22 where the part is no instance; what is refused writes nothing
+unfoldable pub Writes : Option Tree → List ℕ → ℕ → List ℕ → Rewritten → Type 0
+Writes none out at out′ r = (r .code ≡ 22) × (r .end ≡ 0) × (out′ ≡ out)
+Writes (some q) out at out′ r = Wrote (few q) (words q) out at out′ r

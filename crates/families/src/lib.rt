@@ -1,0 +1,98 @@
+// The rules that are no equation: a function for each family of them. The entry finds the family by the rule's number, and relies on nothing: the words may be any.
+mod chains;
+mod children;
+mod collecting;
+mod spreading;
+pub mod writing;
+
+use crate::chains::absorb;
+use crate::chains::merge;
+use crate::chains::remove;
+use crate::chains::swap;
+use crate::collecting::collect;
+use crate::spreading::spread;
+use crate::writing::Replaced;
+use crate::writing::Rewritten;
+use crate::writing::refused;
+use rulebook::Row;
+use rulebook::row_of;
+use term::parts::part_end;
+ghost use mathlib.Core.Path.{_≡_};
+ghost use mathlib.Core.Logic.{_≢_};
+ghost use Prim.Native.Nat.{_+_};
+ghost use lib.ListN.{length};
+ghost use Rattle.term.specs.Parts.{Whole, part};
+ghost use Rattle.types.specs.Sorts.{Context};
+ghost use Rattle.rules.specs.Table.{Rule};
+ghost use Rattle.families.specs.Code.Families.{Does, Lined};
+ghost use Rattle.families.specs.Writing.{Writes, written, familyOf};
+
+// Spreading over the child that the row names, and then `i` is to be 0, or over child `i`.
+fn spread_by(ws: &[u16], row: Row, i: usize, out: &mut [u16]) -> Rewritten
+    requires { ⌜ Whole (now ws) × ((rule : Rule) × Lined row rule) × (row .family ≡ 2) ⌝ }
+    ensures { λ r. ⌜ ((rule : Rule) → Lined row rule → Does (now (ws .entry)) (now (out .entry)) 0 (now (out .exit)) r rule i 0) ⌝ }
+{
+    let which = row.b as usize;
+    if which == 2 {
+        return spread(ws, row.a, i, row.c, row.d, out, 0);
+    }
+    if i != 0 {
+        return refused(22);
+    }
+    spread(ws, row.a, which, row.c, row.d, out, 0)
+}
+
+// The families with one index.
+fn apply_family(ws: &[u16], row: Row, i: usize, out: &mut [u16]) -> Rewritten
+    requires { ⌜ Whole (now ws) × ((rule : Rule) × Lined row rule) × (row .family ≢ 1) × (row .family ≢ 6) ⌝ }
+    ensures { λ r. ⌜ ((rule : Rule) → Lined row rule → Does (now (ws .entry)) (now (out .entry)) 0 (now (out .exit)) r rule i 0) ⌝ }
+{
+    if row.family == 2 {
+        return spread_by(ws, row, i, out);
+    }
+    if row.family == 3 {
+        return remove(ws, row.a, row.b, i, out, 0);
+    }
+    if row.family == 4 {
+        return absorb(ws, i, out, 0);
+    }
+    if row.family == 5 {
+        return merge(ws, i, out, 0);
+    }
+    swap(ws, i, out, 0)
+}
+
+// What the rule of a number makes of the part that is the first `end` of the words.
+fn family_at(ws: &[u16], end: usize, rule: usize, i: usize, j: usize, out: &mut [u16]) -> Rewritten
+    requires { ⌜ end ≡ 0 + length (part (now ws) 0) ⌝ }
+    ensures { λ r. ⌜ ((Γ : Context) → Writes (familyOf Γ rule i j (now (ws .entry))) (now (out .entry)) 0 (now (out .exit)) r) ⌝ }
+{
+    if end == 0 {
+        return refused(22);
+    }
+    let row = row_of(rule);
+    if row.family <= 1 {
+        return refused(22);
+    }
+    let part = &ws[..end];
+    if row.family == 6 {
+        return collect(part, row.a, row.b, i, j, out, 0);
+    }
+    if j != 0 {
+        return refused(22);
+    }
+    apply_family(part, row, i, out)
+}
+
+// What the rule of a number makes of the part with which the words begin: 22 where no whole part does, and for a number that is no family's.
+pub fn rewrite_family(ws: &[u16], rule: usize, i: usize, j: usize, out: &mut [u16]) -> Replaced
+    ensures { λ r. ⌜ ((Γ : Context) → Writes (familyOf Γ rule i j (now (ws .entry))) (now (out .entry)) 0 (now (out .exit)) (written r)) × (r .size ≡ 0 + length (part (now (ws .entry)) 0)) ⌝ }
+{
+    let size = part_end(ws, 0);
+    let made = family_at(ws, size, rule, i, j, out);
+    Replaced {
+        code: made.code,
+        end: made.end,
+        size,
+    }
+}
