@@ -36,32 +36,21 @@ fn begin() -> Match
 fn stop(m: Match, word: u16) -> Match
     ensures { λ r. ⌜ r ≡ stopped m word ⌝ }
 {
-    let starts = m.starts;
-    let ends = m.ends;
-    Match {
-        whole: false,
-        wanted: word,
-        at: m.at,
-        held: m.held,
-        starts,
-        ends,
-    }
+    let mut next = m;
+    next.whole = false;
+    next.wanted = word;
+    next
 }
 
 // A word is met, and the next is looked for at `at`.
 fn pass(m: Match, at: usize) -> Match
     ensures { λ r. ⌜ r ≡ passed m at ⌝ }
 {
-    let starts = m.starts;
-    let ends = m.ends;
-    Match {
-        whole: true,
-        wanted: 0,
-        at,
-        held: m.held,
-        starts,
-        ends,
-    }
+    let mut next = m;
+    next.whole = true;
+    next.wanted = 0;
+    next.at = at;
+    next
 }
 
 // A new hole takes what stands from here up to `end`.
@@ -69,18 +58,14 @@ fn take(m: Match, hole: usize, end: usize) -> Match
     requires { ⌜ hole < 5 ⌝ }
     ensures { λ r. ⌜ r ≡ taken m hole end ⌝ }
 {
-    let mut starts = m.starts;
-    let mut ends = m.ends;
-    starts[hole] = m.at;
-    ends[hole] = end;
-    Match {
-        whole: true,
-        wanted: 0,
-        at: end,
-        held: hole + 1,
-        starts,
-        ends,
-    }
+    let mut next = m;
+    next.whole = true;
+    next.wanted = 0;
+    next.at = end;
+    next.held = hole + 1;
+    next.starts[hole] = m.at;
+    next.ends[hole] = end;
+    next
 }
 
 // A hole that is met first takes the part with which the words from here on begin; one that was met before wants the same part again.

@@ -1,12 +1,12 @@
 -- The code's table is the definition's, and what a row says of its rule.
-use mathlib.Core.Path.{_≡_, refl, _∙_, ap}
-use mathlib.Core.Bool.{Bool, true, false, cond, _&&_, and-eq-true-iff}
+use mathlib.Core.Path.{_≡_, refl, sym, _∙_, ap}
+use mathlib.Core.Bool.{Bool, true, false, cond, _&&_, and-eq-true-iff, true≢false}
 use mathlib.Core.List.{List, [], _∷_, _++_, append-assoc}
 use mathlib.Core.Option.{some, none}
-use Prim.Native.Nat.{ℕ, zero, suc, _+_, _-_, _/_, _%_, _≤_, _<_}
+use Prim.Native.Nat.{ℕ, _+_, _-_, _*_, _/_, _%_, _≤_, _<_}
 use native.Mathlib.Omega.{arith}
 use native.Mathlib.Decide.{decLt}
-use borrow.Author.Tests.{ltb-true, eqb-true, ne-eqb}
+use borrow.Author.Tests.{ltb-true, eqb-true, eq-eqb, ne-eqb}
 use lib.Dec.{eqb, ltb}
 use lib.ListN.{length, take, drop, getD, length-append, length-drop}
 use lib.Seq.{drop-drop, drop-append-seam, drop-append-add, take-append-seam}
@@ -16,7 +16,7 @@ use Rattle.term.specs.Heads.{word}
 use Rattle.rules.specs.Patterns.{Pattern, #_, first, second, _⟨⟩, _⟨_⟩, _⟨_∣_⟩}
 use Rattle.rules.specs.Table.{Kind, Rule, _⇒_▷_, Line, _∶_, table, find, ruleOf}
 use Rattle.rulebook.specs.declared.Row.{Row}
-use Rattle.rulebook.specs.Code.Rows.{patternWords, ruleWords, wordsOf, startIn, rowFor, rowOf, lineOf, kindNumber, allWords}
+use Rattle.rulebook.specs.Code.Rows.{patternWords, ruleWords, wordsOf, grouped, linesIn, wordsIn, startAmong, startIn, row, rowFor, rowOf, lineOf, kindNumber}
 
 -- ---- no rule has a number from 171 on
 below : ℕ → List Line → Bool
@@ -42,7 +42,7 @@ line-from from n rule h l =
 
 -- ---- a row is told by its digits: a computed test of every number
 abbrev rowIn : ℕ → Row
-rowIn w = record { family = w / 68719476736 % 16; a = w / 16777216 % 4096; b = w / 65536 % 256; c = w / 256 % 256; d = w % 256 }
+rowIn w = record { family = w / 268435456 % 16; a = w / 1048576 % 256; b = w / 65536 % 16; c = w / 256 % 256; d = w % 256 }
 
 sameRow : Row → Row → Bool
 sameRow r s = eqb (r .family) (s .family) && (eqb (r .a) (s .a) && (eqb (r .b) (s .b) && (eqb (r .c) (s .c) && eqb (r .d) (s .d))))
@@ -62,29 +62,50 @@ same-row r s e =
     λ i. record { family = f i; a = a i; b = b i; c = c i; d = d i }
 
 pub row-in : (n : ℕ) → rowIn (lineOf (rowOf n)) ≡ rowOf n
-unfolding allUpTo sameRow below lineOf rowOf ruleOf word
+unfolding allUpTo sameRow below lineOf rowOf ruleOf startAmong grouped word
 row-in n = elim (decLt n 171) [
   | yes h ↦ same-row _ _ (allUpTo-at 171 (λ k. sameRow (rowIn (lineOf (rowOf k))) (rowOf k)) refl n h)
   | no h ↦ rw (find-past 171 table refl n (omega arith))
 ]
 
--- ---- how many words all equations have
-pub many : length allWords ≡ 801
-unfolding allWords
-many = refl
+-- ---- groups: a rule is found in its own, and one whose numbers are past every line's has no line
+find-grouped : (n : ℕ) (ls : List Line) → find n (grouped (n / 50) ls) ≡ find n ls
+unfolding grouped
+find-grouped n [] = refl
+find-grouped n ((k ∶ r) ∷ ls) = by-test (eqb (k / 50) (n / 50)) refl (find-grouped n ls)
+  where
+    by-test : (b : Bool) → eqb (k / 50) (n / 50) ≡ b → find n (grouped (n / 50) ls) ≡ find n ls
+        → find n (cond b ((k ∶ r) ∷ grouped (n / 50) ls) (grouped (n / 50) ls)) ≡ cond (eqb n k) (some r) (find n ls)
+    by-test true h e = ap (cond (eqb n k) (some r)) e
+    by-test false h e = rw (ne-eqb n k (λ z. true≢false (sym (eq-eqb (k / 50) (n / 50) (ap (λ x. x / 50) (sym z))) ∙ h))) e
+
+find-in : (n : ℕ) → find n (linesIn (n / 50)) ≡ ruleOf n
+unfolding linesIn ruleOf
+find-in n = find-grouped n table
+
+grouped-past : (m : ℕ) (ls : List Line) → below m ls ≡ true → (g : ℕ) → m ≤ g * 50 → grouped g ls ≡ []
+unfolding below grouped
+grouped-past m [] e g h = refl
+grouped-past m ((k ∶ r) ∷ ls) e g h =
+    let p = and-eq-true-iff (ltb k m) _ .0 e in
+    rw (ne-eqb (k / 50) g (λ z. omega (arith, ltb-true k m (p .0), z, h))) (grouped-past m ls (p .1) g h)
+
+pub words-past : (g : ℕ) → 4 ≤ g → wordsIn g ≡ []
+unfolding wordsIn wordsOf linesIn below
+words-past g h = ap wordsOf (grouped-past 171 table refl g (omega arith))
 
 -- ---- the words of an equation stand where its row says
 record Stand (n : ℕ) (ls : List Line) (l r : Pattern) : Type 0 where
   rest : List ℕ
-  are : drop (startIn n ls) (wordsOf ls) ≡ patternWords l ++ (patternWords r ++ rest)
+  are : drop (startAmong n ls) (wordsOf ls) ≡ patternWords l ++ (patternWords r ++ rest)
 
 stand-first : (n m : ℕ) (s : Rule) (ls : List Line) {k : Kind} (l r : Pattern) → eqb n m ≡ true → s ≡ k ⇒ l ▷ r → Stand n ((m ∶ s) ∷ ls) l r
-unfolding startIn wordsOf ruleWords
+unfolding startAmong wordsOf ruleWords
 stand-first n m s ls l r h e = record { rest = wordsOf ls; are = rw (h, e) (append-assoc (patternWords l) (patternWords r) (wordsOf ls)) }
 
 stand-later : (n m : ℕ) (s : Rule) (ls : List Line) (l r : Pattern) → eqb n m ≡ false → Stand n ls l r → Stand n ((m ∶ s) ∷ ls) l r
-unfolding startIn wordsOf
-stand-later n m s ls l r h x = record { rest = x .rest; are = rw (h, drop-append-add (ruleWords s) (wordsOf ls) (startIn n ls)) (x .are) }
+unfolding startAmong wordsOf
+stand-later n m s ls l r h x = record { rest = x .rest; are = rw (h, drop-append-add (ruleWords s) (wordsOf ls) (startAmong n ls)) (x .are) }
 
 stand : (n : ℕ) (ls : List Line) {k : Kind} (l r : Pattern) → find n ls ≡ some (k ⇒ l ▷ r) → Stand n ls l r
 stand n [] l r e = absurd (let z : _≡_ {A = ℕ} 0 1 = cc in omega arith)
@@ -104,24 +125,37 @@ pattern-some (l ⟨⟩) = omega arith
 pattern-some (l ⟨ p ⟩) = omega arith
 pattern-some (l ⟨ p ∣ q ⟩) = omega arith
 
--- both sides of an equation, at the place and of the lengths that its row says
-pub sides-at : (n : ℕ) {k : Kind} {l r : Pattern} → ruleOf n ≡ some (k ⇒ l ▷ r)
-    → (take (rowOf n .b) (drop (rowOf n .a) allWords) ≡ patternWords l) × (take (rowOf n .c) (drop (rowOf n .a + rowOf n .b) allWords) ≡ patternWords r)
-unfolding rowOf rowFor allWords ruleOf
-sides-at n {k} {l} {r} e =
-    let x = stand n table l r e in
-    let m = length (patternWords l) in
-    rw (e, ← drop-drop m (startIn n table) (wordsOf table), x .are, drop-append-seam) (take-append-seam _ _, take-append-seam _ _)
+-- both sides of an equation, one behind the other
+module _ (n : ℕ) (ls : List Line) {k : Kind} {l r : Pattern} (e : find n ls ≡ some (k ⇒ l ▷ r)) where
+  stands : Stand n ls l r
+  stands = stand n ls l r e
 
-pub sides-inside : (n : ℕ) {k : Kind} {l r : Pattern} → ruleOf n ≡ some (k ⇒ l ▷ r) → rowOf n .a + rowOf n .b + rowOf n .c ≤ length allWords
-unfolding rowOf rowFor allWords ruleOf
-sides-inside n {k} {l} {r} e =
-    let x = stand n table l r e in
-    let d = ap length (x .are) in
-    let a = length-append (patternWords l) (patternWords r ++ x .rest) in
-    let b = length-append (patternWords r) (x .rest) in
-    rw e (omega (arith, length-drop (startIn n table) (wordsOf table), pattern-some l))
+  sides-among : (take (length (patternWords l)) (drop (startAmong n ls) (wordsOf ls)) ≡ patternWords l) × (take (length (patternWords r)) (drop (startAmong n ls + length (patternWords l)) (wordsOf ls)) ≡ patternWords r)
+  sides-among = rw (← drop-drop (length (patternWords l)) (startAmong n ls) (wordsOf ls), stands .are, drop-append-seam) (take-append-seam _ _, take-append-seam _ _)
 
-pub kind-at : (n : ℕ) {k : Kind} {l r : Pattern} → ruleOf n ≡ some (k ⇒ l ▷ r) → rowOf n .d ≡ kindNumber k
-unfolding rowOf rowFor
-kind-at n e = rw e
+  inside-among : startAmong n ls + length (patternWords l) + length (patternWords r) ≤ length (wordsOf ls)
+  inside-among =
+      let d = ap length (stands .are) in
+      let a = length-append (patternWords l) (patternWords r ++ stands .rest) in
+      let b = length-append (patternWords r) (stands .rest) in
+      omega (arith, length-drop (startAmong n ls) (wordsOf ls), pattern-some l)
+
+-- ---- the row of an equation: both sides are in its group, at the place and of the lengths that the row says
+module _ (n : ℕ) {k : Kind} {l r : Pattern} (e : ruleOf n ≡ some (k ⇒ l ▷ r)) where
+  row-at : rowOf n ≡ row 1 (startAmong n (linesIn (n / 50))) (length (patternWords l)) (length (patternWords r)) (kindNumber k)
+  unfolding rowOf rowFor startIn linesIn
+  row-at = rw e
+
+  pub sizes : (rowOf n .b ≡ length (patternWords l)) × (rowOf n .c ≡ length (patternWords r))
+  sizes = rw row-at (refl, refl)
+
+  pub kind-at : rowOf n .d ≡ kindNumber k
+  kind-at = rw row-at
+
+  pub sides-at : (take (rowOf n .b) (drop (rowOf n .a) (wordsIn (n / 50))) ≡ patternWords l) × (take (rowOf n .c) (drop (rowOf n .a + rowOf n .b) (wordsIn (n / 50))) ≡ patternWords r)
+  unfolding wordsIn
+  sides-at = rw row-at (sides-among n (linesIn (n / 50)) (find-in n ∙ e))
+
+  pub sides-inside : rowOf n .a + rowOf n .b + rowOf n .c ≤ length (wordsIn (n / 50))
+  unfolding wordsIn
+  sides-inside = rw row-at (inside-among n (linesIn (n / 50)) (find-in n ∙ e))

@@ -4,7 +4,7 @@ use mathlib.Core.Logic.{_≢_}
 use mathlib.Core.Bool.{Bool, true, false, true≢false}
 use mathlib.Core.List.{List, []}
 use mathlib.Core.Option.{Option, some, none}
-use Prim.Native.Nat.{ℕ, _+_, _-_, _≤_, _<_}
+use Prim.Native.Nat.{ℕ, _+_, _-_, _/_, _≤_, _<_}
 use native.Mathlib.Omega.{arith}
 use borrow.Author.Tests.{le-leb, eq-eqb, ne-eqb, ltb-true}
 use lib.Dec.{eqb}
@@ -26,10 +26,10 @@ use Rattle.rules.proofs.Good.{met, inOrder, below, asked, good, both, all-three
 use Rattle.rules.proofs.Matching.{AllFormed, none-formed, matched}
 use Rattle.typebook.specs.Code.Shapes.{shapeOf, numberOf}
 use Rattle.rulebook.specs.declared.Row.{Row}
-use Rattle.rulebook.specs.Code.Rows.{kindNumber, patternWords, allWords}
-use Rattle.rulebook.proofs.Rows.{kind-at}
+use Rattle.rulebook.specs.Code.Rows.{kindNumber, patternWords, wordsIn}
+use Rattle.rulebook.proofs.Rows.{sizes, kind-at}
 use Rattle.rulebook.proofs.Made.{made, every-made}
-use Rattle.rulebook.proofs.Copied.{sizes, sides-short, left-copied, right-copied}
+use Rattle.rulebook.proofs.Copied.{sides-short, left-copied, right-copied}
 use Rattle.matcher.specs.declared.Match.{Match}
 use Rattle.matcher.specs.Matching.{Found, holds, stops, matchOf}
 use Rattle.matcher.proofs.Theorems.{matches}
@@ -54,28 +54,28 @@ asks-hole a-bra n e h = ltb-true 0 n e
 asks-hole an-operator n e h = ltb-true 0 n e
 
 -- ---- the row of an equation
-module _ {row : Row} (e : Equation row) where
+module _ {n : ℕ} {row : Row} (e : Equation n row) where
   pub sides-room : row .b + row .c ≤ 24
-  sides-room = rw (e .is) (sides-short (e .number) (e .rule))
+  sides-room = rw (e .is) (sides-short n (e .rule))
 
   -- its words, copied
-  module _ {sides : List ℕ} (copied : sides ≡ overlaid (replicate 24 0) (drop (row .a) allWords)) where
+  module _ {sides : List ℕ} (copied : sides ≡ overlaid (replicate 24 0) (drop (row .a) (wordsIn (n / 50)))) where
     pub left-side : take (row .b) sides ≡ patternWords (e .left)
-    left-side = rw (copied, e .is) (left-copied (e .number) (e .rule) (replicate 24 0) refl)
+    left-side = rw (copied, e .is) (left-copied n (e .rule) (replicate 24 0) refl)
 
     pub right-side : take (row .b + row .c - row .b) (drop (row .b) sides) ≡ patternWords (e .right)
     right-side =
         let z : row .b + row .c - row .b ≡ row .c = omega arith in
-        rw (z, copied, e .is) (right-copied (e .number) (e .rule) (replicate 24 0) refl)
+        rw (z, copied, e .is) (right-copied n (e .rule) (replicate 24 0) refl)
 
     pub left-size : row .b ≡ length (take (row .b) sides)
-    left-size = sym (rw left-side (rw (e .is) (sym (sizes (e .number) (e .rule) .0))))
+    left-size = sym (rw left-side (rw (e .is) (sym (sizes n (e .rule) .0))))
 
   pub right-made : made (e .right) ≡ true
-  right-made = every-made (e .number) (e .rule) .1
+  right-made = every-made n (e .rule) .1
 
   pub kind-wanted : row .d ≡ kindNumber (e .kind)
-  kind-wanted = rw (e .is) (kind-at (e .number) (e .rule))
+  kind-wanted = rw (e .is) (kind-at n (e .rule))
 
   pub few-kinds : row .d ≤ 3
   few-kinds = rw kind-wanted (kind-few (e .kind))

@@ -33,10 +33,18 @@ fn is_wanted(ds: &[u16], ws: &[u16], found: Match, kind: u16) -> bool
     class_of(ds, &ws[from..], 0, 64) == 3 + kind
 }
 
-// What the equation of a row makes of the part with which the words begin.
-pub fn equate(ds: &[u16], ws: &[u16], row: Row, i: usize, j: usize, out: &mut [u16]) -> Rewritten
-    requires { ⌜ Site (now ds) (now ws) × Equation row ⌝ }
-    ensures { λ r. ⌜ ((s : Site (now (ds .entry)) (now (ws .entry))) (e : Equation row) → Writes (rewrite (contextIn (now (ds .entry))) (e .kind ⇒ e .left ▷ e .right) i j (s .tree)) (now (out .entry)) 0 (now (out .exit)) r) ⌝ }
+// What the equation of a number, with its row, makes of the part with which the words begin.
+pub fn equate(
+    ds: &[u16],
+    ws: &[u16],
+    rule: usize,
+    row: Row,
+    i: usize,
+    j: usize,
+    out: &mut [u16],
+) -> Rewritten
+    requires { ⌜ Site (now ds) (now ws) × Equation rule row ⌝ }
+    ensures { λ r. ⌜ ((s : Site (now (ds .entry)) (now (ws .entry))) (e : Equation rule row) → Writes (rewrite (contextIn (now (ds .entry))) (e .kind ⇒ e .left ▷ e .right) i j (s .tree)) (now (out .entry)) 0 (now (out .exit)) r) ⌝ }
 {
     if i != 0 {
         return refused(22);
@@ -45,7 +53,7 @@ pub fn equate(ds: &[u16], ws: &[u16], row: Row, i: usize, j: usize, out: &mut [u
         return refused(22);
     }
     let mut sides = [0u16; 24];
-    copy_from(row.a as usize, &mut sides);
+    copy_from(rule, row.a as usize, &mut sides);
     let n = row.b as usize;
     let m = row.c as usize;
     let found = match_words(&sides[..n], ws);

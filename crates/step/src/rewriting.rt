@@ -30,7 +30,7 @@ pub fn rewrite_part(
     ensures { λ r. ⌜ ((s : Site (now (ds .entry)) (now (ws .entry))) (k : Rule) → ruleOf rule ≡ some k → Writes (rewrite (contextIn (now (ds .entry))) k i j (s .tree)) (now (out .entry)) 0 (now (out .exit)) (written r)) × (r .size ≡ 0 + length (part (now (ws .entry)) 0)) ⌝ }
 {
     if row.family == 1 {
-        let made = equate(ds, ws, row, i, j, out);
+        let made = equate(ds, ws, rule, row, i, j, out);
         return Replaced {
             code: made.code,
             end: made.end,

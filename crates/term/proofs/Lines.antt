@@ -1,11 +1,14 @@
 -- The code's table of heads is the definition's, and what its digits say.
 use mathlib.Core.Path.{_≡_, refl, sym, _∙_, ap}
-use mathlib.Core.Bool.{cond}
+use mathlib.Core.Bool.{true, cond}
 use mathlib.Core.Logic.{_≢_}
-use Prim.Native.Nat.{ℕ, zero, suc, _-_, _/_, _%_, _≤_}
+use Prim.Native.Nat.{ℕ, zero, suc, _+_, _-_, _*_, _/_, _%_, _^_, _≤_, _<_}
 use native.Mathlib.Omega.{arith}
+use borrow.Author.Tests.{eqb-true}
 use lib.Dec.{T, eqb, leb→le, eqb·suc-zero}
 use lib.ListN.{length, getD, List·getD-eq-default}
+use Rattle.words.specs.Listed.{allUpTo}
+use Rattle.words.proofs.Listed.{allUpTo-at}
 use Rattle.term.specs.declared.heads.Arity.{Arity}
 use Rattle.term.specs.declared.heads.Arity.the-variants.{Unknown, Children}
 use Rattle.term.specs.declared.heads.Class.{Class}
@@ -70,6 +73,11 @@ form-digit (named l c) = omega (arith, digit-small c)
 form-digit (counted l c c′) = omega (arith, digit-small c, digit-small c′)
 form-digit (fixed l c cs) = omega (arith, digit-small c, digit-small (getD cs 0 Nothing), digit-small (getD cs 1 Nothing))
 
+-- a digit of a number, where the first n digits are the forms of the heads from `from` on
+pub form-at : (x from n : ℕ) → allUpTo n (λ k. eqb (x / 2 ^ (k * 4) % 16) (lineAt (from + k) / 4096)) ≡ true → (k h : ℕ) → k < n → from + k ≡ h
+    → x / 2 ^ (k * 4) % 16 ≡ lineAt h / 4096
+form-at x from n e k h l z = rw (← z) (eqb-true _ _ (allUpTo-at n _ e k l))
+
 result-digit : (h : Head) → lineOf h / 256 % 16 ≡ digit (resultIn h)
 unfolding lineOf resultIn
 result-digit unknown = refl
@@ -108,11 +116,11 @@ arity-by (counted l c c′) (suc a) = rw eqb·suc-zero
 arity-by (fixed l c cs) zero = refl
 arity-by (fixed l c cs) (suc a) = rw eqb·suc-zero
 
-pub arity-line : (w r f : ℕ) → r ≡ lineAt (w / 256) → r / 4096 ≡ f → arityOf w ≡ arityBy f (w % 256)
+pub arity-form : (w r f : ℕ) → r ≡ lineAt (w / 256) / 4096 → r ≡ f → arityOf w ≡ arityBy f (w % 256)
 unfolding arityOf read lineAt
-arity-line w r f e k =
+arity-form w r f e k =
     let h = getD heads (w / 256) unknown in
-    arity-by h (w % 256) ∙ ap (λ x. arityBy x (w % 256)) (sym (form-digit h) ∙ ap (λ x. x / 4096) (sym e) ∙ k)
+    arity-by h (w % 256) ∙ ap (λ x. arityBy x (w % 256)) (sym (form-digit h) ∙ sym e ∙ k)
 
 pub arity-fixed : (f a : ℕ) → 3 ≤ f → arityBy f a ≡ cond (eqb a 0) (Children (f - 3)) Unknown
 arity-fixed zero a h = absurd (omega arith)

@@ -6,45 +6,43 @@ ghost use mathlib.Core.Path.{_≡_};
 ghost use Rattle.typebook.specs.Code.Shapes.{numberOf, fitting};
 ghost use Rattle.typebook.specs.Code.Lines.{ruleAt, isSum, fitted, turned, classBy};
 
-// A line a head, four hexadecimal digits.
+// The rules: a line a head, four hexadecimal digits, and 0 for a number that is no head's.
 // What is asked of the children beside their classes: 0 nothing; 1 one index; 2 the first's columns are the second's rows; 3 all are alike; 4 nothing, and their indices are
 // multiplied; 5 one class, and likewise.
 // The class: 0 as in the table of heads; 1 the first's; 2 the second's; 3 the first's adjoint's.
 // The two indices: 0 none; 1 and 2 those of the first; 3 and 4 those of the second.
-const RULES: [u16; 26] = [
-    0x0000, // no head
-    0x0000, // 1:a  type name
-    0x4012, // 2    product of type indices
-    0x0000, // 3:a  basis name
-    0x4012, // 4    pair of bases
-    0x0000, // 5    scalar 0
-    0x0000, // 6    scalar 1
-    0x3112, // 7:n  scalar sum
-    0x3112, // 8:n  scalar product
-    0x0000, // 9    conjugate
-    0x1000, // 10   delta
-    0x2014, // 11   DOT
-    0x0010, // 12   zero ket
-    0x0001, // 13   zero bra
-    0x0013, // 14   zero operator
-    0x0011, // 15   identity
-    0x0010, // 16   ket of a basis
-    0x0001, // 17   bra of a basis
-    0x0321, // 18   adjoint
-    0x0234, // 19   scaling
-    0x3112, // 20:n sum
-    0x5112, // 21   tensor
-    0x2014, // 22   MULK
-    0x2014, // 23   MULB
-    0x2014, // 24   OUTER
-    0x2014, // 25   MULO
-];
-
-// The line of a head, and 0 for a number that is no head's.
 pub fn rule_of(head: usize) -> u16
     ensures { λ r. ⌜ r ≡ ruleAt head ⌝ }
 {
-    if head < 26 { RULES[head] } else { 0 }
+    match head {
+        0 => 0x0000, // no head
+        1 => 0x0000, // 1:a  type name
+        2 => 0x4012, // 2    product of type indices
+        3 => 0x0000, // 3:a  basis name
+        4 => 0x4012, // 4    pair of bases
+        5 => 0x0000, // 5    scalar 0
+        6 => 0x0000, // 6    scalar 1
+        7 => 0x3112, // 7:n  scalar sum
+        8 => 0x3112, // 8:n  scalar product
+        9 => 0x0000, // 9    conjugate
+        10 => 0x1000, // 10   delta
+        11 => 0x2014, // 11   DOT
+        12 => 0x0010, // 12   zero ket
+        13 => 0x0001, // 13   zero bra
+        14 => 0x0013, // 14   zero operator
+        15 => 0x0011, // 15   identity
+        16 => 0x0010, // 16   ket of a basis
+        17 => 0x0001, // 17   bra of a basis
+        18 => 0x0321, // 18   adjoint
+        19 => 0x0234, // 19   scaling
+        20 => 0x3112, // 20:n sum
+        21 => 0x5112, // 21   tensor
+        22 => 0x2014, // 22   MULK
+        23 => 0x2014, // 23   MULB
+        24 => 0x2014, // 24   OUTER
+        25 => 0x2014, // 25   MULO
+        _ => 0,
+    }
 }
 
 // The heads of sums and products of many.

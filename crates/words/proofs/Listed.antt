@@ -1,6 +1,7 @@
 -- Lists and tests by number: an item is found by its number, and a test passes where it passes for each.
 use mathlib.Core.Path.{_≡_, refl, ap}
 use mathlib.Core.Bool.{Bool, true, false, and-eq-true-iff, and-false}
+use mathlib.Core.Logic.{_≢_}
 use mathlib.Core.List.{List, [], _∷_, _++_}
 use mathlib.Core.Option as O
 use Prim.Native.Nat.{ℕ, zero, suc, _+_, _≤_, _<_}
@@ -79,3 +80,13 @@ unfolding allUpTo
 allUpTo-fails zero f a h e = absurd (omega arith)
 allUpTo-fails (suc n) f zero h e = rw e
 allUpTo-fails (suc n) f (suc a) h e = rw (allUpTo-fails n (λ k. f (suc k)) a (omega arith) e) (and-false (f 0))
+
+-- ---- a number that is none of 0 .. n − 1, as the last arm of a `match` is told it
+unfoldable pub Others : ℕ → ℕ → Type 0
+Others zero k = Unit {0}
+Others (suc n) k = Others n k × (k ≢ n)
+
+pub others-from : (n k : ℕ) → Others n k → n ≤ k
+unfolding Others
+others-from zero k o = omega arith
+others-from (suc n) k o = let h = others-from n k (o .0) in let d = o .1 in omega arith

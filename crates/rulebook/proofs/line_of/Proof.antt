@@ -1,12 +1,11 @@
 -- The code's lines are the definition's, computed for all 171 numbers, and no rule has a number past them.
 use mathlib.Core.Path.{sym}
-use native.Mathlib.Omega.{arith}
 use borrow.Author.Needs.{needs}
 use Rattle.words.specs.Listed.{upTo}
 use Rattle.words.proofs.Listed.{upTo-read}
 use Rattle.term.specs.Heads.{word}
 use Rattle.rules.specs.Table.{ruleOf}
-use Rattle.rulebook.specs.Code.Rows.{rowOf, lineOf}
+use Rattle.rulebook.specs.Code.Rows.{grouped, startAmong, rowOf, lineOf}
 use Rattle.rulebook.proofs.Rows.{line-from, line-past}
 use Rattle.rulebook.proofs.line_of.Statement.{statement}
 use Rattle.rulebook.proofs.line_of.Tie as tie
@@ -18,7 +17,7 @@ array-read-result : tie.Need-array-read-result
 array-read-result c = search needs
 
 returns : tie.Need-returns
-unfolding upTo lineOf rowOf ruleOf word
+unfolding upTo lineOf rowOf ruleOf startAmong grouped word
 returns c = upTo-read 50 (λ k. lineOf (rowOf k)) 0 (c .before .args .rule) (c .if1 .taken)
 
 mul-result-2 : tie.Need-mul-result-2
@@ -28,7 +27,7 @@ array-read-result-2 : tie.Need-array-read-result-2
 array-read-result-2 c = search needs
 
 returns-2 : tie.Need-returns-2
-unfolding upTo lineOf rowOf ruleOf word
+unfolding upTo lineOf rowOf ruleOf startAmong grouped word
 returns-2 c = line-from 50 50 (c .before .before .args .rule) (c .before .if1 .left) (c .if2 .taken)
 
 mul-result-3 : tie.Need-mul-result-3
@@ -38,7 +37,7 @@ array-read-result-3 : tie.Need-array-read-result-3
 array-read-result-3 c = search needs
 
 returns-3 : tie.Need-returns-3
-unfolding upTo lineOf rowOf ruleOf word
+unfolding upTo lineOf rowOf ruleOf startAmong grouped word
 returns-3 c = line-from 100 50 (c .before .before .before .args .rule) (c .before .if2 .left) (c .if3 .taken)
 
 mul-result-4 : tie.Need-mul-result-4
@@ -48,7 +47,7 @@ array-read-result-4 : tie.Need-array-read-result-4
 array-read-result-4 c = search needs
 
 returns-4 : tie.Need-returns-4
-unfolding upTo lineOf rowOf ruleOf word
+unfolding upTo lineOf rowOf ruleOf startAmong grouped word
 returns-4 c = line-from 150 21 (c .before .before .before .before .args .rule) (c .before .if3 .left) (c .if4 .taken)
 
 returns-5 : tie.Need-returns-5

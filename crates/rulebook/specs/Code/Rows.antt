@@ -1,5 +1,5 @@
--- The table of rules as the code holds it: a row of five numbers for each rule number, and the words of all equations one side behind the other. Both are made of `table` of `rules` Table,
--- which is the one to believe.
+-- The table of rules as the code holds it: a row of five numbers for each rule number, and the words of the equations one side behind the other, in groups of fifty rule numbers. Both are
+-- made of `table` of `rules` Table, which is the one to believe.
 use mathlib.Core.Bool.{cond}
 use mathlib.Core.List.{List, [], _∷_, _++_}
 use mathlib.Core.Option.{Option, some, none}
@@ -36,11 +36,26 @@ unfolding ruleWords
 wordsOf [] = []
 wordsOf ((n ∶ r) ∷ ls) = ruleWords r ++ wordsOf ls
 
--- where the words of a rule begin
-unfoldable pub startIn : ℕ → List Line → ℕ
+-- ---- groups: the lines whose number divided by 50 is the group's
+unfoldable pub grouped : ℕ → List Line → List Line
+grouped g [] = []
+grouped g ((n ∶ r) ∷ ls) = cond (eqb (n / 50) g) ((n ∶ r) ∷ grouped g ls) (grouped g ls)
+
+unfoldable pub linesIn : ℕ → List Line
+linesIn g = grouped g table
+
+unfoldable pub wordsIn : ℕ → List ℕ
+wordsIn g = wordsOf (linesIn g)
+
+-- where the words of a rule begin among those of some lines
+unfoldable pub startAmong : ℕ → List Line → ℕ
 unfolding ruleWords
-startIn n [] = 0
-startIn n ((k ∶ r) ∷ ls) = cond (eqb n k) 0 (length (ruleWords r) + startIn n ls)
+startAmong n [] = 0
+startAmong n ((k ∶ r) ∷ ls) = cond (eqb n k) 0 (length (ruleWords r) + startAmong n ls)
+
+-- and among those of its group
+unfoldable pub startIn : ℕ → List Line → ℕ
+startIn n ls = startAmong n (grouped (n / 50) ls)
 
 -- ---- numbers for what a rule is made of
 abbrev pub headOf : Label → ℕ
@@ -62,7 +77,7 @@ summandNumber plain = 0
 summandNumber scaled = 1
 
 -- ---- a row: the family, and what it asks
--- 0 no rule; 1 an equation: where its words begin, how many its left and its right side have, the kind wanted; 2 spreading: the head, which child, the sum's head,
+-- 0 no rule; 1 an equation: where its words begin in its group, how many its left and its right side have, the kind wanted; 2 spreading: the head, which child, the sum's head,
 -- the result's; 3 removing: the parent's head, the child's; 4 absorbing; 5 merging; 6 collecting: whether each summand is scaled; 7 swapping
 abbrev pub row : ℕ → ℕ → ℕ → ℕ → ℕ → Row
 row f a b c d = record { family = f; a = a; b = b; c = c; d = d }
@@ -83,11 +98,6 @@ unfoldable pub rowOf : ℕ → Row
 unfolding rowFor startIn
 rowOf n = rowFor (startIn n table) (ruleOf n)
 
--- all words of the table
-unfoldable pub allWords : List ℕ
-unfolding wordsOf
-allWords = wordsOf table
-
--- a row in hexadecimal digits: one for the family, three for a, two each for b, c and d
+-- a row in hexadecimal digits: one for the family, two for a, one for b, two each for c and d
 unfoldable pub lineOf : Row → ℕ
-lineOf r = r .family * 68719476736 + r .a * 16777216 + r .b * 65536 + r .c * 256 + r .d
+lineOf r = r .family * 268435456 + r .a * 1048576 + r .b * 65536 + r .c * 256 + r .d

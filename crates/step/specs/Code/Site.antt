@@ -25,9 +25,8 @@ pub record Site (ds ws : List ℕ) : Type 0 where
   pub after : List ℕ
   pub whole : ws ≡ words tree ++ after
 
--- a row of the table that is an equation's
-pub record Equation (row : Row) : Type 0 where
-  pub number : ℕ
+-- a number of the table, with its row, that is an equation's
+pub record Equation (number : ℕ) (row : Row) : Type 0 where
   pub kind : Kind
   pub left : Pattern
   pub right : Pattern

@@ -18,15 +18,15 @@ use Rattle.step.proofs.equations.equate.Statement.{statement}
 use Rattle.step.proofs.equations.equate.Tie as tie
 
 -- the left side's words were walked
-walked : (c : tie.After-match-words) → let args = c .before .before .before .before .before .before .before .before .before .before .before .before .before .args in (s : Site (args .ds .now) (args .ws .now)) (e : Equation (args .row)) → c .match-words .result ≡ matchOf (patternWords (e .left)) (args .ws .now)
+walked : (c : tie.After-match-words) → let args = c .before .before .before .before .before .before .before .before .before .before .before .before .before .args in (s : Site (args .ds .now) (args .ws .now)) (e : Equation (args .rule) (args .row)) → c .match-words .result ≡ matchOf (patternWords (e .left)) (args .ws .now)
 walked c = λ s e. rw (left-side e (c .before .before .before .before .before .copy-from .ensures)) at (c .match-words .ensures)
 
 -- and matched
-found : (c : tie.Else3) → let args = c .before .before .before .before .before .before .before .before .before .before .before .before .before .before .before .args in (s : Site (args .ds .now) (args .ws .now)) (e : Equation (args .row)) → Caughts (e .number) (e .rule) s (c .before .before .match-words .result)
-found c = λ s e. found-in (e .number) (e .rule) s (walked (c .before .before) s e) (not-false _ (c .if3 .left))
+found : (c : tie.Else3) → let args = c .before .before .before .before .before .before .before .before .before .before .before .before .before .before .before .args in (s : Site (args .ds .now) (args .ws .now)) (e : Equation (args .rule) (args .row)) → Caughts _ (e .rule) s (c .before .before .match-words .result)
+found c = λ s e. found-in _ (e .rule) s (walked (c .before .before) s e) (not-false _ (c .if3 .left))
 
 -- the right side's words stand behind them
-right : (c : tie.After-build-side-arg2) → let args = c .before .before .before .before .before .before .before .before .before .before .before .before .before .before .before .before .before .before .before .before .args in (e : Equation (args .row)) → take (args .row .b + args .row .c - args .row .b) (drop (args .row .b) (c .before .before .before .before .before .before .before .before .before .before .before .before .copy-from .last .1 .0)) ≡ patternWords (e .right)
+right : (c : tie.After-build-side-arg2) → let args = c .before .before .before .before .before .before .before .before .before .before .before .before .before .before .before .before .before .before .before .before .args in (e : Equation (args .rule) (args .row)) → take (args .row .b + args .row .c - args .row .b) (drop (args .row .b) (c .before .before .before .before .before .before .before .before .before .before .before .before .copy-from .last .1 .1 .0)) ≡ patternWords (e .right)
 right c = λ e. right-side e (c .before .before .before .before .before .before .before .before .before .before .before .before .copy-from .ensures)
 
 refused-requires : tie.Need-refused-requires
@@ -71,13 +71,13 @@ refused-requires-3 c κs = search needs
 returns-3 : tie.Need-returns-3
 returns-3 c =
     λ s e.
-    refuses _ _ _ _ (no-left _ _ _ _ _ _ _ (c .before .before .before .before .before .before .before .before .before .before .before .before .if1 .left) (c .before .before .before .before .before .before .before .before .before .before .before .if2 .left) (found-none (e .number) (e .rule) s (walked (c .before .before .before) s e) (not-true _ (c .before .if3 .taken)))) (c .refused3 .ensures) refl
+    refuses _ _ _ _ (no-left _ _ _ _ _ _ _ (c .before .before .before .before .before .before .before .before .before .before .before .before .if1 .left) (c .before .before .before .before .before .before .before .before .before .before .before .if2 .left) (found-none _ (e .rule) s (walked (c .before .before .before) s e) (not-true _ (c .before .if3 .taken)))) (c .refused3 .ensures) refl
 
 is-wanted-requires : tie.Need-is-wanted-requires
 is-wanted-requires c κs =
     let pre = c .before .before .before .before .before .before .before .before .before .before .before .before .before .before .before .pre in
     let f = found c (pre .0) (pre .1) in
-    ((_, f .held), λ h. kind-asks (pre .1 .number) (pre .1 .rule) (pre .0) f (λ z. h (kind-wanted (pre .1) ∙ z)), few-kinds (pre .1))
+    ((_, f .held), λ h. kind-asks _ (pre .1 .rule) (pre .0) f (λ z. h (kind-wanted (pre .1) ∙ z)), few-kinds (pre .1))
 
 refused-requires-4 : tie.Need-refused-requires-4
 refused-requires-4 c κs = search needs
@@ -108,7 +108,7 @@ build-side-requires : tie.Need-build-side-requires
 build-side-requires c κs =
     let pre = c .before .before .before .before .before .before .before .before .before .before .before .before .before .before .before .before .before .before .before .before .pre in
     let f = found (c .before .before .before .before .before) (pre .0) (pre .1) in
-    ((_, f .held), omega arith, rw (right c (pre .1)) (right-asks (pre .1 .number) (pre .1 .rule) (pre .0) f))
+    ((_, f .held), omega arith, rw (right c (pre .1)) (right-asks _ (pre .1 .rule) (pre .0) f))
 
 same-length : tie.Need-same-length
 same-length c = search needs

@@ -1,62 +1,58 @@
 -- `heads::arity_of` meets its contract: each answer is what the line's first digit and the low byte say.
 use mathlib.Core.Path.{refl, sym, _∙_}
-use Prim.Native.Nat.{_/_, _≤_}
+use Prim.Native.Nat.{_≤_}
 use native.Mathlib.Omega.{arith}
 use borrow.Author.Needs.{needs}
 use borrow.Author.Tests.{eq-eqb, ne-eqb}
-use Rattle.term.proofs.Lines.{arity-line, arity-fixed}
+use Rattle.term.proofs.Lines.{arity-form, arity-fixed}
 use Rattle.term.proofs.heads.arity_of.Statement.{statement}
 use Rattle.term.proofs.heads.arity_of.Tie as tie
 
-cast-line-of : tie.Need-cast-line-of
-cast-line-of c = search needs
+cast-form-of : tie.Need-cast-form-of
+cast-form-of c = search needs
 
-line-of-requires : tie.Need-line-of-requires
-line-of-requires c κs = search needs
+form-of-requires : tie.Need-form-of-requires
+form-of-requires c κs = search needs
 
 cast-low : tie.Need-cast-low
 cast-low c = search needs
 
 returns : tie.Need-returns
-returns c = sym (arity-line _ _ 0 (c .before .line-of .ensures) (c .if1 .taken))
+returns c = sym (arity-form _ _ 0 (c .before .form-of .ensures) (c .if1 .taken))
 
 returns-2 : tie.Need-returns-2
-returns-2 c = sym (arity-line _ _ 1 (c .before .before .line-of .ensures) (c .if2 .taken))
+returns-2 c = sym (arity-form _ _ 1 (c .before .before .form-of .ensures) (c .if2 .taken))
 
 returns-3 : tie.Need-returns-3
-returns-3 c = sym (arity-line _ _ 2 (c .before .before .before .before .line-of .ensures) (c .before .if3 .taken) ∙ rw (eq-eqb _ _ (c .if4 .taken)))
+returns-3 c = sym (arity-form _ _ 2 (c .before .before .before .before .form-of .ensures) (c .before .if3 .taken) ∙ rw (eq-eqb _ _ (c .if4 .taken)))
 
 returns-4 : tie.Need-returns-4
-returns-4 c = sym (arity-line _ _ 2 (c .before .before .before .before .line-of .ensures) (c .before .if3 .taken) ∙ rw (ne-eqb _ _ (c .if4 .left)))
+returns-4 c = sym (arity-form _ _ 2 (c .before .before .before .before .form-of .ensures) (c .before .if3 .taken) ∙ rw (ne-eqb _ _ (c .if4 .left)))
 
-cast-t9 : tie.Need-cast-t9
-cast-t9 c = search needs
-
-sub-t10 : tie.Need-sub-t10
-sub-t10 c = search needs
+sub-t8 : tie.Need-sub-t8
+sub-t8 c = search needs
 
 returns-5 : tie.Need-returns-5
 returns-5 c =
-    let f : 3 ≤ c .before .before .before .before .line-of .result / 4096 = omega arith in
-    sym (arity-line _ _ _ (c .before .before .before .before .line-of .ensures) refl ∙ arity-fixed _ _ f ∙ rw (eq-eqb _ _ (c .if5 .taken)))
+    let f : 3 ≤ c .before .before .before .before .form-of .result = omega arith in
+    sym (arity-form _ _ _ (c .before .before .before .before .form-of .ensures) refl ∙ arity-fixed _ _ f ∙ rw (eq-eqb _ _ (c .if5 .taken)))
 
 returns-6 : tie.Need-returns-6
 returns-6 c =
-    let f : 3 ≤ c .before .before .before .before .line-of .result / 4096 = omega arith in
-    sym (arity-line _ _ _ (c .before .before .before .before .line-of .ensures) refl ∙ arity-fixed _ _ f ∙ rw (ne-eqb _ _ (c .if5 .left)))
+    let f : 3 ≤ c .before .before .before .before .form-of .result = omega arith in
+    sym (arity-form _ _ _ (c .before .before .before .before .form-of .ensures) refl ∙ arity-fixed _ _ f ∙ rw (ne-eqb _ _ (c .if5 .left)))
 
 pub arity-of-spec : {M : Type 1} → statement M
 arity-of-spec =
     tie.close
     (tie.spec
-    cast-line-of
-    line-of-requires
+    cast-form-of
+    form-of-requires
     cast-low
     returns
     returns-2
     returns-3
     returns-4
-    cast-t9
-    sub-t10
+    sub-t8
     returns-5
     returns-6)
