@@ -1,10 +1,10 @@
 -- Walks over a text, byte by byte: what is to be known of a whole text is still to be known of the rest.
 use mathlib.Core.Path.{_≡_, refl}
 use mathlib.Core.Logic.{_≢_}
-use mathlib.Core.Bool.{Bool, true, false, cond, not, _&&_}
+use mathlib.Core.Bool.{Bool, true, false, cond, not, _&&_, _||_, and-eq-true-iff}
 use mathlib.Core.List.{List, [], _∷_}
 use mathlib.Core.Option.{some, none}
-use Prim.Native.Nat.{ℕ, _+_, _-_, _*_, _≤_, _<_, min}
+use Prim.Native.Nat.{ℕ, suc, _+_, _-_, _*_, _≤_, _<_, min}
 use native.Mathlib.Numerals.{add-one}
 use native.Mathlib.Omega.{arith}
 use borrow.Author.Tests.{eq-eqb, ne-eqb}
@@ -13,7 +13,7 @@ use lib.ListN.{length, drop, getD, drop-of-length-le}
 use lib.Seq.{drop-cons, take-all}
 use Rattle.bytes.specs.Bytes.{indexOf, slice}
 use Rattle.text.specs.declared.numbers.Number.the-variants.{Value, Malformed}
-use Rattle.text.specs.Bytes.{printable, badLine}
+use Rattle.text.specs.Bytes.{lineFeed, printable, fine, allFine, badLine}
 use Rattle.text.specs.Pieces.{pieceEnd, starts}
 use Rattle.text.specs.Numbers.{isDigit, allDigits, valueFrom, wellBegun, isNumber, numberIn, told, most}
 
@@ -34,6 +34,49 @@ module _ (n : ℕ) (e : Bool) (s : List ℕ) (i : ℕ) where
   pub bad-end : length s ≤ i → badLine n e (drop i s) ≡ cond e 0 n
   unfolding badLine
   bad-end h = rw (drop-of-length-le s h)
+
+-- ---- no bad byte
+pub fine-more : (so : Bool) (s : List ℕ) (i : ℕ) → i < length s → (so && allFine (drop i s)) ≡ ((fine (getD s i 0) && so) && allFine (drop (i + 1) s))
+unfolding allFine
+fine-more so s i h = rw (drop-cons s i 0 h, add-one i) (turned so (fine (getD s i 0)) (allFine (drop (suc i) s)))
+  where
+    turned : (a b c : Bool) → (a && (b && c)) ≡ ((b && a) && c)
+    turned true true c = refl
+    turned true false c = refl
+    turned false true c = refl
+    turned false false c = refl
+
+pub fine-end : (so : Bool) (s : List ℕ) (i : ℕ) → length s ≤ i → (so && allFine (drop i s)) ≡ so
+unfolding allFine
+fine-end true s i h = rw (drop-of-length-le s h)
+fine-end false s i h = refl
+
+-- whether the last byte is a LF; of no bytes, whether one stands before them
+lastFeed : Bool → List ℕ → Bool
+lastFeed e [] = e
+lastFeed e (b ∷ bs) = lastFeed (eqb b lineFeed) bs
+
+last-feed : (e : Bool) (b : ℕ) (s : List ℕ) → getD (b ∷ s) (length s) 0 ≡ 10 → lastFeed e (b ∷ s) ≡ true
+unfolding lastFeed
+last-feed e b [] h = eq-eqb b 10 h
+last-feed e b (c ∷ s) h = last-feed (eqb b lineFeed) c s h
+
+fine-zero : (s : List ℕ) (n : ℕ) (e : Bool) → allFine s ≡ true → lastFeed e s ≡ true → badLine n e s ≡ 0
+unfolding allFine fine lastFeed badLine
+fine-zero [] n e h f = rw f
+fine-zero (b ∷ s) n e h f =
+    let both = and-eq-true-iff (eqb b lineFeed || printable b) (allFine s) .0 h in
+    by-test (eqb b lineFeed) (printable b) (both .0) f (λ m. fine-zero s (n + 1) true (both .1) m) (λ m. fine-zero s n false (both .1) m)
+  where
+    by-test : (a p : Bool) → (a || p) ≡ true → lastFeed a s ≡ true → (lastFeed true s ≡ true → badLine (n + 1) true s ≡ 0) → (lastFeed false s ≡ true → badLine n false s ≡ 0)
+        → cond a (badLine (n + 1) true s) (cond p (badLine n false s) n) ≡ 0
+    by-test true p x m k l = k m
+    by-test false true x m k l = l m
+    by-test false false x m k l = absurd (let z : _≡_ {A = ℕ} 0 1 = cc in omega arith)
+
+pub none-bad : (s : List ℕ) → 0 < length s → getD s (length s - 1) 0 ≡ 10 → allFine s ≡ true → badLine 1 false s ≡ 0
+none-bad [] h l f = absurd (omega arith)
+none-bad (b ∷ s) h l f = let z : suc (length s) - 1 ≡ length s = omega arith in fine-zero (b ∷ s) 1 false f (last-feed false b s (rw z at l))
 
 -- ---- the end of a piece, and keys
 module _ (s : List ℕ) (at b : ℕ) where

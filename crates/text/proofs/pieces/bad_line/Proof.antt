@@ -1,72 +1,27 @@
--- The invariant: the fault that is asked for is the first from `i` on, where line `line` goes on, or begins straight behind a LF.
-use mathlib.Core.Path.{_≡_, refl, sym, _∙_}
-use Prim.Native.Nat.{_-_, _+_, _≤_}
-use native.Mathlib.Omega.{arith}
-use mathlib.Core.Bool.{false}
-use mathlib.Core.Logic.{⊎-elim}
-use borrow.Author.Tests.{not-true, not-false}
-use lib.ListN.{length, drop}
-use Rattle.text.specs.Bytes.{badLine}
-use Rattle.text.proofs.Scanned.{bad-feed, bad-fine, bad-found, bad-end}
+-- No line is asked for where all bytes are fine and the last is a LF.
+use mathlib.Core.Path.{sym, _∙_}
 use borrow.Author.Needs.{needs}
+use Rattle.text.proofs.Scanned.{none-bad}
 use Rattle.text.proofs.pieces.bad_line.Statement.{statement}
 use Rattle.text.proofs.pieces.bad_line.Tie as tie
 
-abbrev Inv-loop : tie.InvT-loop
-Inv-loop bytes line₀ ended₀ i₀ line ended i = (line ≤ i + 1) × (i ≤ length bytes) × (badLine 1 false bytes ≡ badLine line ended (drop i bytes))
+sub-if2 : tie.Need-sub-if2
+sub-if2 c = search needs
 
-abbrev μ-loop : tie.MeasureT-loop
-μ-loop bytes line₀ ended₀ i₀ line ended i = length bytes - i
+shared-slice-read-if2 : tie.Need-shared-slice-read-if2
+shared-slice-read-if2 c = search needs
 
-loop-holds : tie.Need-loop-holds Inv-loop μ-loop
-loop-holds c = (omega arith, omega arith, refl)
+are-fine-requires : tie.Need-are-fine-requires
+are-fine-requires c κs = search needs
 
-shared-slice-read-byte : tie.Need-shared-slice-read-byte Inv-loop μ-loop
-shared-slice-read-byte c = search needs
+returns : tie.Need-returns
+returns c = sym (none-bad _ (c .before .before .before .before .if1 .taken) (c .before .before .if2 .taken) (sym (c .before .are-fine .ensures) ∙ c .if3 .taken))
 
-add-line : tie.Need-add-line Inv-loop μ-loop
-add-line c = search needs
+first-bad-line-requires : tie.Need-first-bad-line-requires
+first-bad-line-requires c κs = search needs
 
-is-printable-requires : tie.Need-is-printable-requires Inv-loop μ-loop
-is-printable-requires c κs = search needs
-
-returns : tie.Need-returns Inv-loop μ-loop
-returns c = sym (c .before .before .before .before .before .loop .inv .2 ∙ bad-found _ _ _ (c .before .before .before .before .before .loop .i) (omega arith) (c .before .before .if1 .left) (sym (c .before .is-printable .ensures) ∙ not-true _ (c .if2 .taken)))
-
-add-i : tie.Need-add-i Inv-loop μ-loop
-add-i c = search needs
-
-loop-less : tie.Need-loop-less Inv-loop μ-loop
-loop-less c = search needs
-
-loop-again : tie.Need-loop-again Inv-loop μ-loop
-loop-again c =
-    let inv = c .before .before .before .loop .inv in
-    let i = c .before .before .before .loop .i in
-    ⊎-elim
-    (λ w. (omega arith, omega arith, inv .2 ∙ bad-feed _ _ _ i (omega arith) (w .0 .taken) ∙ rw (w .1, w .2)))
-    (λ w. (omega arith, omega arith, inv .2 ∙ bad-fine _ _ _ i (omega arith) (w .0 .left) (sym (w .1 .ensures) ∙ not-false _ (w .2 .left)) ∙ rw (w .3, w .4)))
-    (c .if1 .came)
-
-returns-2 : tie.Need-returns-2 Inv-loop μ-loop
-returns-2 c = sym (c .before .before .loop .inv .2 ∙ bad-end _ _ _ (c .before .before .loop .i) (c .before .loop-test .left) ∙ rw (c .if3 .taken))
-
-returns-3 : tie.Need-returns-3 Inv-loop μ-loop
-returns-3 c = sym (c .before .before .loop .inv .2 ∙ bad-end _ _ _ (c .before .before .loop .i) (c .before .loop-test .left) ∙ rw (c .if3 .left))
+returns-2 : tie.Need-returns-2
+returns-2 c = search needs
 
 pub bad-line-spec : {M : Type 1} → statement M
-bad-line-spec =
-    tie.close
-    (tie.spec
-    Inv-loop
-    μ-loop
-    loop-holds
-    shared-slice-read-byte
-    add-line
-    is-printable-requires
-    returns
-    add-i
-    loop-less
-    loop-again
-    returns-2
-    returns-3)
+bad-line-spec = tie.close (tie.spec sub-if2 shared-slice-read-if2 are-fine-requires returns first-bad-line-requires returns-2)

@@ -1,0 +1,45 @@
+-- The invariant: all bytes are fine where those before `i` are, and those from `i` on.
+use mathlib.Core.Path.{_≡_, refl, sym, _∙_}
+use mathlib.Core.Bool.{_&&_}
+use Prim.Native.Nat.{_-_, _≤_}
+use native.Mathlib.Omega.{arith}
+use borrow.Author.Needs.{needs}
+use lib.ListN.{length, drop}
+use Rattle.text.specs.Bytes.{allFine}
+use Rattle.text.proofs.Scanned.{fine-more, fine-end}
+use Rattle.text.proofs.pieces.are_fine.Statement.{statement}
+use Rattle.text.proofs.pieces.are_fine.Tie as tie
+
+abbrev Inv-loop : tie.InvT-loop
+Inv-loop bytes n fine₀ i₀ fine i = (i ≤ n) × (allFine bytes ≡ (fine && allFine (drop i bytes)))
+
+abbrev μ-loop : tie.MeasureT-loop
+μ-loop bytes n fine₀ i₀ fine i = n - i
+
+loop-holds : tie.Need-loop-holds Inv-loop μ-loop
+loop-holds c = (omega arith, refl)
+
+shared-slice-read-still-fine : tie.Need-shared-slice-read-still-fine Inv-loop μ-loop
+shared-slice-read-still-fine c = search needs
+
+still-fine-requires : tie.Need-still-fine-requires Inv-loop μ-loop
+still-fine-requires c κs = search needs
+
+add-i : tie.Need-add-i Inv-loop μ-loop
+add-i c = search needs
+
+loop-less : tie.Need-loop-less Inv-loop μ-loop
+loop-less c = search needs
+
+loop-again : tie.Need-loop-again Inv-loop μ-loop
+loop-again c =
+    let loop = c .before .before .before .loop in
+    (omega arith, loop .inv .1 ∙ fine-more (loop .fine) _ (loop .i) (omega arith) ∙ rw (c .still-fine .ensures))
+
+returns : tie.Need-returns Inv-loop μ-loop
+returns c =
+    let loop = c .before .loop in
+    sym (loop .inv .1 ∙ fine-end (loop .fine) _ (loop .i) (omega arith))
+
+pub are-fine-spec : {M : Type 1} → statement M
+are-fine-spec = tie.close (tie.spec Inv-loop μ-loop loop-holds shared-slice-read-still-fine still-fine-requires add-i loop-less loop-again returns)
