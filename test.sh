@@ -25,7 +25,7 @@ rt fmt --check
 (cd checker && cargo test --release --offline) > "$logs/checker" 2>&1 &
 tests=$!
 # rt starts so many proofs at a time and waits for all of them; with one for each of two cores a core waits for the longer.
-RT_JOBS=${RT_JOBS:-4} rt ci 2>&1 | tee "$logs/ci"
+RT_JOBS=${RT_JOBS:-3} rt ci 2>&1 | tee "$logs/ci"
 finish "$tests" "$logs/checker"
 
 rt staticlib library > "$logs/library" 2>&1 &

@@ -87,6 +87,10 @@ uint64_t fejogbu_step(const uint16_t *declarations, size_t declarations_size, ui
 uint64_t fejogbu_typing(const uint16_t *declarations, size_t declarations_size, const uint16_t *term, size_t term_size, size_t n, uint64_t *answer,
                         size_t answer_size, uint16_t *rows, size_t rows_size, uint16_t *columns, size_t columns_size);
 
+/* Looks up the part that begins at the offset `at` of any words: returns how many words it has and puts its depth into `*depth`; a leaf is 1 deep. Both are 0 exactly where the offset is
+ * not below the size or no whole part begins there. Limits, names and types are not looked at. */
+size_t fejogbu_part(const uint16_t *words, size_t words_size, size_t at, size_t *depth);
+
 /* ---- declarations put together. What is not done changes nothing. The numbers are those of the codes: 6 and 7 say what they say of a file */
 #define FEJOGBU_PUT_DONE 0        /* The name is declared. */
 #define FEJOGBU_PUT_WRONG_SIZE 1  /* The slice is not 6,179 words long: the calling program's doing, as code 1. */

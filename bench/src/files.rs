@@ -12,7 +12,7 @@ fn file(header: &str, left: &str, right: &str, steps: &[String]) -> Vec<u8> {
 }
 
 /// A sum of kets of about so many words: sums of 255 under one sum, or one sum.
-fn sum(words: usize) -> String {
+pub fn sum(words: usize) -> String {
     let row = |n: usize| format!("20:{n}{}", " 26:0".repeat(n));
     if words <= 256 {
         return row(words - 1);

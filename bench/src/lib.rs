@@ -38,7 +38,21 @@ impl Pair {
         if self.work.left.slice()[..] != self.left || self.work.right.slice()[..] != self.right {
             return Err(format!("both answer {ours:?}, and the slices differ"));
         }
+        self.same_parts(file.len())?;
         Ok(ours[0])
+    }
+
+    /// Whether both look up the same parts, with the same depths, in the slices that are left: at the front, at an offset that differs from file to file, and past the end.
+    fn same_parts(&self, seed: usize) -> Result<(), String> {
+        for slice in [&self.left, &self.right] {
+            for at in [0, seed % 31, seed % WORDS, WORDS] {
+                let (ours, theirs) = (fejogbu::part(slice, at), checker::words::part(slice, at));
+                if (ours.words, ours.depth) != (theirs.words, theirs.depth) {
+                    return Err(format!("the parts at {at} differ: proved {ours:?}, checker {theirs:?}"));
+                }
+            }
+        }
+        Ok(())
     }
 
     pub fn proved(&mut self, file: &[u8]) -> u64 {

@@ -1,11 +1,14 @@
-//! `bench`: the proved replay beside the checker, the same files in the same run, as a table of ratios and a plot (bench/growth.svg) of time
-//! against steps and against words.
+//! `bench`: the proved replay beside the checker, the same files in the same run, as a table of ratios, a swap in plain scans of its words, and
+//! a plot (bench/growth.svg) of time against steps and against words.
 
 mod files;
 mod plot;
+mod scan;
 mod terms;
 
 use bench::Pair;
+use checker::words::part;
+use std::collections::HashMap;
 use std::hint::black_box;
 use std::time::Instant;
 
@@ -53,15 +56,38 @@ fn typing() {
     println!();
 }
 
-fn main() {
-    typing();
-    let mut pair = Pair::default();
+/// The files, and the times of each by its name.
+fn replays(pair: &mut Pair) -> HashMap<&'static str, (f64, f64)> {
+    let mut taken = HashMap::new();
     println!("| file | bytes | code | proved (µs) | checker (µs) | ratio |\n|---|---|---|---|---|---|");
     for (name, file) in files::table() {
         let code = pair.proved(&file);
-        let (ours, theirs) = measure(&mut pair, &file);
+        let (ours, theirs) = measure(pair, &file);
         println!("| {name} | {} | {code} | {ours:.1} | {theirs:.1} | {:.2} |", file.len(), ours / theirs);
+        taken.insert(name, (ours, theirs));
     }
+    println!();
+    taken
+}
+
+/// One plain scan of a large term's words, and what a swap on them takes of it. A swap is what each of 1,000 adds to the file without steps.
+fn scans(taken: &HashMap<&str, (f64, f64)>) {
+    let words = terms::words(&files::sum(3826));
+    assert_eq!(scan::end(&words), Some(part(&words, 0).words.len()), "both find one end");
+    let plain = |words: &mut &[u16]| scan::end(black_box(words)).unwrap_or(0) as u64;
+    let lookup = |words: &mut &[u16]| part(black_box(words), 0).depth as u64;
+    let (plain, lookup) = times(&mut &words[..], plain, lookup);
+    let (with, without) = (taken["1,000 swaps on 3,826 words"], taken["no steps on 3,826 words"]);
+    let (ours, theirs) = ((with.0 - without.0) / 1000.0, (with.1 - without.1) / 1000.0);
+    println!("one plain scan of {} words: {plain:.2} µs; a swap on them takes {:.1} of it", words.len(), ours / plain);
+    println!("the checker's lookup of their end and depth: {lookup:.2} µs; its swap takes {:.1} of the scan", theirs / plain);
+}
+
+fn main() {
+    typing();
+    let mut pair = Pair::default();
+    let taken = replays(&mut pair);
+    scans(&taken);
     let by_steps: Vec<_> = (0..=10).map(|k| (100 * k, measure(&mut pair, &files::swaps(30, 100 * k)))).collect();
     let by_words: Vec<_> = (1..=10).map(|k| (380 * k, measure(&mut pair, &files::swaps(380 * k, 100)))).collect();
     plot::draw("bench/growth.svg", &[("steps, on a sum of 30 words", &by_steps), ("words, with 100 swaps", &by_words)]).expect("bench/growth.svg is written");

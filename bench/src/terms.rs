@@ -48,7 +48,7 @@ pub struct Typed<'d> {
 
 impl Typed<'_> {
     pub fn of<'d>(declared: &'d Declared, text: &str) -> Typed<'d> {
-        let mut slice: Vec<u16> = text.split(' ').map(word).collect();
+        let mut slice = words(text);
         let length = slice.len();
         slice.resize(WORDS, 0);
         Typed { declared, slice, length }
@@ -77,6 +77,10 @@ impl Typed<'_> {
     pub fn checker(&self) -> u64 {
         checker::typing::typing(&self.declared.theirs, &self.slice, self.length).depth as u64
     }
+}
+
+pub fn words(text: &str) -> Vec<u16> {
+    text.split(' ').map(word).collect()
 }
 
 fn word(token: &str) -> u16 {

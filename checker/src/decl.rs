@@ -1,7 +1,7 @@
 //! Declarations: how many types there are, the index of each basis name, the
 //! kind and indices of each variable.
 
-use crate::words::{head, low, part, word, Names, INDEX, NAMES, PRODUCT, TYPE};
+use crate::words::{head, low, split_part, word, Names, INDEX, NAMES, PRODUCT, TYPE};
 
 /// What a variable is declared to be.
 #[derive(Clone, Copy, PartialEq, Eq, Debug)]
@@ -83,11 +83,11 @@ impl Declarations {
 /// over type names below `types`.
 fn indices(mut words: &[u16], types: usize, wanted: usize) -> bool {
     for _ in 0..wanted {
-        let index = part(words, 0);
+        let (index, behind) = split_part(words);
         if index.is_empty() || index.len() > INDEX {
             return false;
         }
-        words = &words[index.len()..];
+        words = behind;
         let fits =
             |&w: &u16| w == word(PRODUCT, 0) || head(w) == TYPE && usize::from(low(w)) < types;
         if !index.iter().all(fits) {

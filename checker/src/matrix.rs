@@ -133,7 +133,7 @@ pub fn dimension(index: &[u16], dimensions: &[usize]) -> Option<usize> {
 
 /// The rows and columns of a variable.
 pub fn shape(letter: Letter, words: &[u16], dimensions: &[usize]) -> Option<(usize, usize)> {
-    let (first, second) = words.split_at(part(words, 0).len());
+    let (first, second) = split_part(words);
     let first = dimension(first, dimensions)?;
     let second = dimension(second, dimensions)?;
     Some(match letter {
@@ -146,7 +146,9 @@ pub fn shape(letter: Letter, words: &[u16], dimensions: &[usize]) -> Option<(usi
 
 /// The matrix of a typed term; nothing when it is too large to work out.
 pub fn meaning(declared: &Declarations, choice: &Choice, words: &[u16]) -> Option<Matrix> {
-    depth(words)?;
+    if !(1..=DEPTH).contains(&part(words, 0).depth) {
+        return None;
+    }
     Reader { declared, choice, words, at: 0 }.term()
 }
 
@@ -236,7 +238,7 @@ impl Reader<'_> {
 
     /// The dimension of the index that stands next.
     fn index(&mut self) -> Option<usize> {
-        let index = part(self.words, self.at);
+        let index = part(self.words, self.at).words;
         self.at += index.len();
         dimension(index, &self.choice.dimensions)
     }

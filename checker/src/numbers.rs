@@ -26,7 +26,7 @@ use crate::decl::{Declarations, Letter, Variable};
 use crate::file::{number, words};
 use crate::lent::{Case, Lent, RunCase};
 use crate::replay::replay as replayed;
-use crate::words::{part, used, WORDS};
+use crate::words::{split_part, used, WORDS};
 use std::fs;
 use std::path::Path;
 use std::str::Lines;
@@ -178,7 +178,7 @@ fn kind(letter: Letter) -> usize {
 fn indices(variable: &Variable) -> (&[u16], &[u16]) {
     let words = &variable.words[..];
     match variable.letter {
-        Letter::Operator => words.split_at(part(words, 0).len()),
+        Letter::Operator => split_part(words),
         _ => (words, &[]),
     }
 }

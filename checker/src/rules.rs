@@ -254,8 +254,9 @@ impl<'t> Opened<'t> {
             return None;
         }
         let start = parts(self.words).take(i).map(<[u16]>::len).sum();
-        let child = part(self.words, start);
-        Some((&self.words[..start], child, &self.words[start + child.len()..]))
+        let (before, rest) = self.words.split_at(start);
+        let (child, behind) = split_part(rest);
+        Some((before, child, behind))
     }
 }
 
@@ -389,14 +390,14 @@ fn multiple(summand: &[u16], scaled: bool) -> Option<(&[u16], &[u16])> {
         return None;
     }
     let rest = &summand[1..];
-    Some(rest.split_at(part(rest, 0).len()))
+    Some(split_part(rest))
 }
 
 /// 170: children i and i + 1 change places.
 fn swapped(part: &[u16], i: usize, out: &mut Out) -> Option<()> {
     let sum = Opened::new(part).filter(|sum| i + 1 < sum.children)?;
     let (before, child, rest) = sum.split(i)?;
-    let (next, behind) = rest.split_at(self::part(rest, 0).len());
+    let (next, behind) = split_part(rest);
     out.counted(sum.head, sum.children);
     out.part(before);
     out.part(next);
@@ -429,7 +430,7 @@ fn fit<'t>(left: &Items, part: &'t [u16]) -> Option<[&'t [u16]; SLOTS]> {
             Item::Word(_) => return None,
             Item::Each { head, .. } if head != self::head(first) => return None,
             Item::Part(slot) | Item::Each { slot, .. } => {
-                let (here, behind) = rest.split_at(self::part(rest, 0).len());
+                let (here, behind) = split_part(rest);
                 let place = &mut bound[usize::from(slot)];
                 if !place.is_empty() && *place != here {
                     return None;

@@ -3,7 +3,7 @@
 use crate::decl::Declarations;
 use crate::rules::{by_number, Out};
 use crate::typing::typing;
-use crate::words::{ancestors, depth, part, DEPTH, WORDS};
+use crate::words::{ancestors, part, Part, DEPTH, WORDS};
 
 /// What a step line says, without its side.
 #[derive(Clone, Copy, PartialEq, Eq, Debug)]
@@ -29,7 +29,7 @@ pub(crate) fn rewrite(
     if place >= length {
         return Err(21);
     }
-    let old = part(&slice[..length], place);
+    let Part { words: old, depth: before } = part(&slice[..length], place);
     let room = scratch.len() - (length - old.len());
     let mut out = Out::new(&mut scratch[..room]);
     rule.apply(declared, old, step.i.into(), step.j.into(), &mut out).ok_or(22)?;
@@ -37,9 +37,9 @@ pub(crate) fn rewrite(
 
     // A place has at most as many ancestors as words before it, and only a
     // part that grew deeper can make the whole too deep.
-    let deep = depth(new).ok_or(23)?;
+    let deep = part(new, 0).depth;
     if place + deep > DEPTH
-        && depth(old).is_none_or(|before| deep > before)
+        && deep > before
         && ancestors(slice, place).is_none_or(|above| above + deep > DEPTH)
     {
         return Err(23);

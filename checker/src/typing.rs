@@ -139,8 +139,8 @@ impl Typer<'_> {
                     Letter::Ket => Kind::Ket(all),
                     Letter::Bra => Kind::Bra(all),
                     Letter::Operator => {
-                        let rows = part(&variable.words, 0).len();
-                        Kind::Operator(rows, all - rows)
+                        let (rows, columns) = split_part(&variable.words);
+                        Kind::Operator(rows.len(), columns.len())
                     }
                 }))
             }

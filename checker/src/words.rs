@@ -1,5 +1,5 @@
-//! Terms as runs of 16-bit words in prefix order: the table of heads, parts
-//! and their two lookups, depth, and the test of a term.
+//! Terms as runs of 16-bit words in prefix order: the table of heads, the two
+//! lookups of a part with its depth, and the test of a term.
 
 /// Words in a work slice, and the most a term may have.
 pub const WORDS: usize = 4096;
@@ -108,12 +108,15 @@ pub const fn low(word: u16) -> u8 {
 /// How many children follow a word; none when its head is unknown, be it by
 /// its number, by a low byte it must not carry, or by a count of 0.
 pub fn children_of(word: u16) -> Option<u8> {
-    match (form(head(word)), low(word)) {
-        (Form::Name, _) => Some(0),
-        (Form::Count, n @ 1..) => Some(n),
-        (Form::Fixed(n), 0) => Some(n),
-        _ => None,
+    let (form, a) = (form(head(word)), low(word));
+    // One match over all forms would be a jump through a table for every word.
+    if let Form::Fixed(n) = form {
+        return (a == 0).then_some(n);
     }
+    if form == Form::Name {
+        return Some(0);
+    }
+    (form == Form::Count && a > 0).then_some(a)
 }
 
 /// Where the whole part that begins at `at` ends, if one begins there.
@@ -129,12 +132,25 @@ pub fn part_end(words: &[u16], at: usize) -> Option<usize> {
     None
 }
 
-/// The part of `words` that begins at `offset`; empty exactly when the offset
-/// is not below the length or no whole part begins there.
-pub fn part(words: &[u16], offset: usize) -> &[u16] {
-    match part_end(words, offset) {
-        Some(end) => &words[offset..end],
-        None => &[],
+/// A part of the caller's words and its depth: a leaf is 1 deep.
+#[derive(Clone, Copy, PartialEq, Eq, Debug)]
+pub struct Part<'t> {
+    pub words: &'t [u16],
+    pub depth: usize,
+}
+
+impl Part<'_> {
+    /// The answer where no whole part begins.
+    pub const EMPTY: Part<'static> = Part { words: &[], depth: 0 };
+}
+
+/// The part of `words` that begins at `offset`; empty, and 0 deep, exactly when
+/// the offset is not below the length or no whole part begins there.
+pub fn part(words: &[u16], offset: usize) -> Part<'_> {
+    let words = words.get(offset..).unwrap_or(&[]);
+    match walk(words) {
+        Some(Walk { read, open: 0, depth }) => Part { words: &words[..read], depth },
+        _ => Part::EMPTY,
     }
 }
 
@@ -145,11 +161,17 @@ pub enum Side {
 }
 
 /// The part that begins at `offset` of the side that is named.
-pub fn part_of<'t>(left: &'t [u16], right: &'t [u16], side: Side, offset: usize) -> &'t [u16] {
+pub fn part_of<'t>(left: &'t [u16], right: &'t [u16], side: Side, offset: usize) -> Part<'t> {
     match side {
         Side::Left => part(left, offset),
         Side::Right => part(right, offset),
     }
+}
+
+/// The part that `words` begin with, empty when none does, and what stands
+/// behind it.
+pub fn split_part(words: &[u16]) -> (&[u16], &[u16]) {
+    words.split_at(part_end(words, 0).unwrap_or(0))
 }
 
 /// The parts that stand one behind the other in `words`.
@@ -161,62 +183,61 @@ pub fn parts(mut words: &[u16]) -> impl Iterator<Item = &[u16]> {
     })
 }
 
-/// The open ancestors of the next word, while a part is read from its front.
-struct Levels {
-    /// Children still to come, for each open ancestor.
-    open: [u8; DEPTH],
-    level: usize,
+/// What reading words from their front finds, until a part is whole or they
+/// end.
+struct Walk {
+    read: usize,
+    /// Heads that still wait for children.
+    open: usize,
+    /// The depth of the part, where it is whole.
+    depth: usize,
 }
 
-impl Levels {
-    fn new() -> Self {
-        Levels { open: [0; DEPTH], level: 0 }
-    }
-
-    /// Takes the next word, which has so many children. Nothing when it would
-    /// stand deeper than 64.
-    fn take(&mut self, children: u8) -> Option<()> {
+/// Finds end and depth together. Nothing when a head is unknown.
+fn walk(words: &[u16]) -> Option<Walk> {
+    let (mut read, mut open, mut deepest) = (0, 0, 0);
+    // Parts still to come under the innermost open head, and under those around
+    // it. A term is at most 64 deep, so only other words need the vector.
+    let mut missing = 1;
+    let mut near = [0; DEPTH];
+    let mut far;
+    let mut around = &mut near[..];
+    while let Some(&word) = words.get(read) {
+        read += 1;
+        let children = children_of(word)?;
         if children > 0 {
-            *self.open.get_mut(self.level)? = children;
-            self.level += 1;
-            return Some(());
-        }
-        if self.level == DEPTH {
-            return None;
-        }
-        while let Some(last) = self.level.checked_sub(1) {
-            self.open[last] -= 1;
-            if self.open[last] > 0 {
-                break;
+            match around.get_mut(open) {
+                Some(place) => *place = missing,
+                None => {
+                    far = around.repeat(2);
+                    far[open] = missing;
+                    around = &mut far;
+                }
             }
-            self.level = last;
+            missing = children;
+            open += 1;
+            continue;
         }
-        Some(())
+        missing -= 1;
+        if missing == 0 {
+            // Leaves before it under this head stand no deeper, and deeper parts
+            // had a last leaf of their own.
+            deepest = deepest.max(open);
+            while missing == 0 {
+                if open == 0 {
+                    return Some(Walk { read, open, depth: deepest + 1 });
+                }
+                open -= 1;
+                missing = around[open] - 1;
+            }
+        }
     }
+    Some(Walk { read, open, depth: 0 })
 }
 
-/// The depth of the whole part that begins at offset 0; nothing when no whole
-/// part begins there or it is over 64 deep.
-pub fn depth(words: &[u16]) -> Option<usize> {
-    let mut levels = Levels::new();
-    let mut deepest = 0;
-    for &word in words {
-        deepest = deepest.max(levels.level + 1);
-        levels.take(children_of(word)?)?;
-        if levels.level == 0 {
-            return Some(deepest);
-        }
-    }
-    None
-}
-
-/// How many ancestors the word at `place` has, in a term at most 64 deep.
+/// How many ancestors the word at `place` of a term has.
 pub fn ancestors(words: &[u16], place: usize) -> Option<usize> {
-    let mut levels = Levels::new();
-    for &word in words.get(..place)? {
-        levels.take(children_of(word)?)?;
-    }
-    Some(levels.level)
+    Some(walk(words.get(..place)?)?.open)
 }
 
 /// How many names of each sort are declared.
@@ -242,13 +263,13 @@ impl Names {
 /// The test of a term: its depth when `words` are exactly one whole part of at
 /// most 4,096 words, at most 64 deep, with declared names only.
 pub fn test(words: &[u16], names: Names) -> Option<usize> {
-    let whole = words.len() <= WORDS && part_end(words, 0) == Some(words.len());
-    let declared = || words.iter().all(|&word| names.has(word));
-    if whole && declared() {
-        depth(words)
-    } else {
-        None
+    if words.len() > WORDS {
+        return None;
     }
+    let Part { words: whole, depth } = part(words, 0);
+    let fits = whole.len() == words.len() && (1..=DEPTH).contains(&depth);
+    let declared = || words.iter().all(|&word| names.has(word));
+    (fits && declared()).then_some(depth)
 }
 
 /// The words of a slice up to the last that is not zero.

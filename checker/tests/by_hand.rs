@@ -1,11 +1,11 @@
 //! Every rule's result word by word, worked out by hand from 002's tables and
-//! document 01, and parts that are no instances.
+//! document 01, parts that are no instances, and what the lookups give.
 
 use checker::decl::{Declarations, Letter, Variable};
 use checker::file::words;
 use checker::rules::{Way, RULES};
 use checker::step::{single, Step};
-use checker::words::{tokens, WORDS};
+use checker::words::{part, part_of, tokens, word, Part, Side, WORDS};
 
 /// The types S, T, U, V.
 const TYPES: [(&str, &str); 4] = [("S", "1:0"), ("T", "1:1"), ("U", "1:2"), ("V", "1:3")];
@@ -73,12 +73,17 @@ fn declared() -> Declarations {
 }
 
 /// The code and the words after one step; the slice starts dirty.
-fn step(rule: u16, i: u16, j: u16, term: &[u16]) -> (u8, String) {
+fn stepped(step: Step, term: &[u16]) -> (u8, String) {
     let mut slice = vec![0xABCD; WORDS];
     slice[..term.len()].copy_from_slice(term);
-    let answer = single(&declared(), &mut slice, term.len(), Step { rule, place: 0, i, j });
+    let answer = single(&declared(), &mut slice, term.len(), step);
     assert!(slice[answer.length..].iter().all(|&word| word == 0), "zeros behind");
     (answer.code, tokens(&slice[..answer.length]))
+}
+
+/// The same for the whole term.
+fn step(rule: u16, i: u16, j: u16, term: &[u16]) -> (u8, String) {
+    stepped(Step { rule, place: 0, i, j }, term)
 }
 
 /// Rule, i, j, the part, what it becomes.
@@ -355,4 +360,194 @@ fn the_numbers_are_those_of_the_paper() {
     let table: Vec<(u16, String)> =
         RULES.iter().map(|rule| (rule.number, rule.name.to_string())).collect();
     assert_eq!(table, expected);
+}
+
+/// The scalar 0 under conjugates, so deep.
+fn chain(deep: usize) -> Vec<u16> {
+    let mut words = vec![0x0900; deep - 1];
+    words.push(0x0500);
+    words
+}
+
+/// Both lookups of the part at an offset, each side in turn beside other words.
+fn lookups(words: &[u16], offset: usize) -> Part<'_> {
+    let other = [0x0900, 0x0900, 0x0600];
+    let found = part(words, offset);
+    assert_eq!(part_of(words, &other, Side::Left, offset), found);
+    assert_eq!(part_of(&other, words, Side::Right, offset), found);
+    found
+}
+
+/// That a part begins at the offset, of this length and depth.
+fn assert_part(words: &[u16], offset: usize, length: usize, depth: usize) {
+    let found = lookups(words, offset);
+    assert_eq!((found.words.len(), found.depth), (length, depth), "at {offset}");
+    assert_eq!(found.words.as_ptr(), words[offset..].as_ptr(), "the caller's own words");
+}
+
+#[test]
+fn a_chain_is_as_deep_as_it_is_long() {
+    for deep in [1, 2, 64, 65, 300, 20_000] {
+        let words = chain(deep);
+        assert_part(&words, 0, deep, deep);
+        assert_part(&words, deep / 2, deep - deep / 2, deep - deep / 2);
+        assert_part(&words, deep - 1, 1, 1);
+    }
+}
+
+#[test]
+fn the_deepest_branch_may_stand_anywhere() {
+    let words = read("7:3 9 6 8:3 5 9 9 9 6 9 5 9 9 5");
+    // Length and depth of the part at each offset.
+    let parts = [
+        (14, 6),
+        (2, 2),
+        (1, 1),
+        (8, 5),
+        (1, 1),
+        (4, 4),
+        (3, 3),
+        (2, 2),
+        (1, 1),
+        (2, 2),
+        (1, 1),
+        (3, 3),
+        (2, 2),
+        (1, 1),
+    ];
+    assert_eq!(words.len(), parts.len());
+    for (offset, (length, depth)) in parts.into_iter().enumerate() {
+        assert_part(&words, offset, length, depth);
+    }
+}
+
+#[test]
+fn wide_and_deep_parts() {
+    let leaves = vec![0x0600; 127];
+    let wide = [&[word(7, 255)], &leaves[..], &chain(300), &leaves].concat();
+    assert_part(&wide, 0, 555, 301);
+    assert_part(&wide, 128, 300, 300);
+    assert_part(&wide, 428, 1, 1);
+
+    let twice = [&[word(8, 4)], &chain(100)[..], &chain(20_000), &chain(65), &chain(2)].concat();
+    assert_part(&twice, 0, 20_168, 20_001);
+    assert_part(&twice, 20_101, 65, 65);
+
+    // Products of two, all in the first child or all in the second.
+    let first = [vec![word(8, 2); 20_000], vec![0x0500; 20_001]].concat();
+    assert_part(&first, 0, 40_001, 20_001);
+    assert_part(&first, 19_999, 3, 2);
+    let second = [[word(8, 2), 0x0500].repeat(20_000), vec![0x0500]].concat();
+    assert_part(&second, 0, 40_001, 20_001);
+    assert_part(&second, 39_998, 3, 2);
+}
+
+#[test]
+fn words_behind_a_part_do_not_count() {
+    for behind in [&[0x0000][..], &[0x1B00, 0x0500], &[0x0900], &[0x0700], &[0x0900, 0x0500]] {
+        for deep in [1, 2, 64, 65, 300] {
+            assert_part(&[&chain(deep), behind].concat(), 0, deep, deep);
+        }
+        let words = [&read("9 7:2 10 s p 9 6"), behind].concat();
+        assert_part(&words, 0, 7, 4);
+        assert_part(&words, 1, 6, 3);
+        assert_part(&words, 2, 3, 2);
+        assert_part(&words, 5, 2, 2);
+    }
+}
+
+/// Limits and names are not looked at.
+#[test]
+fn a_part_need_be_no_term() {
+    assert_part(&read("2 1:255 26:200"), 0, 3, 2);
+    let sum = [&[word(7, 255)], &[0x0500; 255][..]].concat();
+    let long = [&[word(20, 255)], &sum.repeat(255)[..]].concat();
+    assert_part(&long, 0, 65_281, 3);
+    assert_part(&long, 1, 256, 2);
+    assert_part(&long, 65_025, 256, 2);
+    assert_part(&long, 65_280, 1, 1);
+}
+
+#[test]
+fn where_no_whole_part_begins_the_answer_is_empty() {
+    let empty: [(&[u16], usize); 24] = [
+        // The offset is not below the length.
+        (&[], 0),
+        (&[], 1),
+        (&[], usize::MAX),
+        (&[0x0500], 1),
+        (&[0x0900, 0x0500], 2),
+        (&[0x0900, 0x0500], 3),
+        (&[0x0900, 0x0500], usize::MAX),
+        (&[0x0900, 0x0500], usize::MAX / 2 + 1),
+        // The head is unknown, by its number or by a low byte.
+        (&[0x0000], 0),
+        (&[0x1B00, 0x0500], 0),
+        (&[0xFFFF], 0),
+        (&[0x0501], 0),
+        (&[0x0901, 0x0500], 0),
+        (&[0x0900, 0x1B00, 0x0500], 0),
+        (&[0x0702, 0x0500, 0x0000], 0),
+        // n is 0.
+        (&[0x0700], 0),
+        (&[0x0800, 0x0500], 0),
+        (&[0x1400], 0),
+        (&[0x0900, 0x0700], 0),
+        (&[0x0702, 0x0500, 0x0800], 0),
+        // The words do not suffice.
+        (&[0x0900], 0),
+        (&[0x0500, 0x0900], 1),
+        (&[0x0703, 0x0500, 0x0600], 0),
+        (&[0x0A00, 0x0300], 0),
+    ];
+    for (words, offset) in empty {
+        assert_eq!(lookups(words, offset), Part { words: &[], depth: 0 }, "{words:?} at {offset}");
+    }
+    let endless = vec![0x0900; 20_000];
+    assert_eq!(lookups(&endless, 0), Part::EMPTY);
+    assert_eq!(lookups(&[endless, vec![0x0000]].concat(), 0), Part::EMPTY);
+}
+
+#[test]
+fn the_side_is_the_one_that_is_named() {
+    let (left, right) = (read("9 9 5 6"), read("7:2 5 9 9 6 9"));
+    // Side, offset, length and depth.
+    let parts = [
+        (Side::Left, 0, 3, 3),
+        (Side::Left, 1, 2, 2),
+        (Side::Left, 2, 1, 1),
+        (Side::Left, 3, 1, 1),
+        (Side::Left, 4, 0, 0),
+        (Side::Right, 0, 5, 4),
+        (Side::Right, 1, 1, 1),
+        (Side::Right, 2, 3, 3),
+        (Side::Right, 3, 2, 2),
+        (Side::Right, 4, 1, 1),
+        (Side::Right, 5, 0, 0),
+    ];
+    for (side, offset, length, depth) in parts {
+        let words = if side == Side::Left { &left } else { &right };
+        let expected = Part { words: &words[offset..offset + length], depth };
+        assert_eq!(part_of(&left, &right, side, offset), expected, "{side:?} at {offset}");
+    }
+    assert_eq!(part_of(&left, &[], Side::Right, 0), Part::EMPTY);
+    assert_eq!(part_of(&[], &right, Side::Left, 0), Part::EMPTY);
+}
+
+/// 51 makes of a part 2 deep one 4 deep.
+#[test]
+fn a_result_is_at_most_64_deep() {
+    let at = |place: usize| Step { rule: 51, place: place as u16, i: 0, j: 1 };
+    let (old, new) = (read("20:2 kS kS"), "20:1 19 7:2 6 6 26:3");
+    for (above, code) in [(0, 0), (60, 0), (61, 23), (62, 23)] {
+        let term = [&vec![word(18, 0); above], &old[..]].concat();
+        let result = format!("{}{new}", "18 ".repeat(above));
+        let expected = if code == 0 { result } else { tokens(&term) };
+        assert_eq!(stepped(at(above), &term), (code, expected), "under {above}");
+    }
+    // Beside a part that makes the whole 64 deep.
+    let beside = [&[word(18, 0); 62], &read("kS")[..]].concat();
+    let term = [&[word(20, 2)], &beside[..], &old].concat();
+    let result = format!("20:2 {} {new}", tokens(&beside));
+    assert_eq!(stepped(at(64), &term), (0, result));
 }

@@ -108,7 +108,7 @@ fn the_limits_are_those_of_the_whole_result() {
 
         // The whole result, made without any limit.
         let mut out = Out::new(&mut room);
-        let old = part(&before, place);
+        let old = part(&before, place).words;
         let (i, j) = (instance.i.into(), instance.j.into());
         rule.apply(&gen.declared, old, i, j, &mut out).expect("an instance");
         let new = out.done().expect("room for the result");

@@ -6,7 +6,7 @@ use checker::gen::Gen;
 use checker::lent::Case;
 use checker::rules::{by_number, Out, Rule, Way, RULES};
 use checker::step::{single, Step, Stepped};
-use checker::words::{depth, head, low, part, parts, word, DEPTH, SCR, WORDS};
+use checker::words::{head, low, part, parts, word, DEPTH, SCR, WORDS};
 use std::collections::BTreeMap;
 use std::sync::OnceLock;
 
@@ -26,7 +26,8 @@ impl Taken {
     /// The rule of the step, and the part at its place.
     fn rule_and_part(&self) -> (&'static Rule, &[u16]) {
         let rule = by_number(self.step.rule).expect("a rule");
-        (rule, part(&self.case.lent.words[..self.case.lent.length], self.step.place.into()))
+        let words = &self.case.lent.words[..self.case.lent.length];
+        (rule, part(words, self.step.place.into()).words)
     }
 }
 
@@ -159,7 +160,7 @@ fn merged_two(it: &Taken, parent: u8) -> Option<Limit> {
 fn at_limit(it: &Taken) -> Option<Limit> {
     match it.left.len() {
         WORDS => Some(Limit::Words),
-        _ if depth(&it.left) == Some(DEPTH) => Some(Limit::Depth),
+        _ if part(&it.left, 0).depth == DEPTH => Some(Limit::Depth),
         _ => merged_two(it, 254),
     }
 }

@@ -7,7 +7,7 @@ use checker::decl::{Declarations, Letter};
 use checker::file::{variable, words};
 use checker::gen::{Gen, Rng};
 use checker::typing::{typing, Kind};
-use checker::words::{part, part_of, tokens, word, Names, Side, WORDS};
+use checker::words::{part, part_of, tokens, word, Names, Part, Side, WORDS};
 
 /// A part as a tree: its word, its offset and end, its children.
 struct Tree {
@@ -260,19 +260,19 @@ fn lookups_are_as_the_paper_says() {
         for offset in 0..15 {
             for (side, words) in [(Side::Left, &left), (Side::Right, &right)] {
                 let expected = match tree(words, offset) {
-                    Some(tree) => &words[offset..tree.end],
-                    None => &[],
+                    Some(tree) => Part { words: &words[offset..tree.end], depth: tree.depth() },
+                    None => Part { words: &[], depth: 0 },
                 };
                 assert_eq!(part(words, offset), expected);
                 assert_eq!(part_of(&left, &right, side, offset), expected);
-                empty += usize::from(expected.is_empty());
-                whole += usize::from(expected.len() > 1);
+                empty += usize::from(expected.depth == 0);
+                whole += usize::from(expected.depth > 1);
             }
         }
     }
     println!("{empty} empty parts, {whole} parts of more than one word");
     assert!(empty > 1000 && whole > 1000);
-    assert!(part(&[], usize::MAX).is_empty());
+    assert_eq!(part(&[], usize::MAX), Part::EMPTY);
 }
 
 #[test]

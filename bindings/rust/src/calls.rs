@@ -1,4 +1,4 @@
-//! The four functions of the library. Every slice that is handed over is of the length that is said, and those that are written are lent to nobody else meanwhile: that is all that the
+//! The five functions of the library. Every slice that is handed over is of the length that is said, and those that are written are lent to nobody else meanwhile: that is all that the
 //! library asks of its caller.
 use crate::outside;
 use crate::{
@@ -118,6 +118,31 @@ pub fn typing(declarations: &Declarations, term: &Term) -> Typing {
         length: length as usize,
         depth: depth as usize,
         kind: kind_of(kind, &rows[..n as usize], &columns[..m as usize]),
+    }
+}
+
+/// A part of some words and its depth: a leaf is 1 deep.
+#[derive(Clone, Copy, PartialEq, Eq, Debug)]
+pub struct Part<'a> {
+    pub words: &'a [u16],
+    pub depth: usize,
+}
+
+/// Looks up the part that begins at an offset of any words. It is empty, and 0 deep, exactly where the offset is not below their number or no whole part begins there; limits, names
+/// and types are not looked at.
+///
+/// ```
+/// let term = [fejogbu::word(9, 0), fejogbu::word(9, 0), fejogbu::word(5, 0)];
+/// assert_eq!(fejogbu::part(&term, 1).words, &term[1..]);
+/// assert_eq!(fejogbu::part(&term, 1).depth, 2);
+/// assert_eq!(fejogbu::part(&term, 3).depth, 0);
+/// ```
+pub fn part(words: &[u16], at: usize) -> Part<'_> {
+    let mut depth = 0;
+    let length = unsafe { outside::fejogbu_part(words.as_ptr(), words.len(), at, &mut depth) };
+    Part {
+        words: if length == 0 { &[] } else { &words[at..at + length] },
+        depth,
     }
 }
 

@@ -51,6 +51,8 @@ extern "C" {
         columns: *mut u16,
         columns_size: usize,
     ) -> u64;
+    pub fn fejogbu_part(words: *const u16, words_size: usize, at: usize, depth: *mut usize)
+        -> usize;
     pub fn fejogbu_start_declarations(
         declarations: *mut u16,
         declarations_size: usize,

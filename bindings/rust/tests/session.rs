@@ -1,6 +1,6 @@
 //! The scope's derivation and its damaged copies, through each function.
 use fejogbu::{
-    replay, run, step, typing, word, Answer, Code, Declarations, Kind, Outcome, Refused, Side,
+    part, replay, run, step, typing, word, Answer, Code, Declarations, Kind, Outcome, Refused, Side,
     Step, Steps, Term, Variable, Work,
 };
 
@@ -329,4 +329,33 @@ fn a_small_stack_is_enough() {
         .spawn(move || replay(deep.as_bytes(), &mut Work::new()).code)
         .unwrap();
     assert!(replayed.join().unwrap().number() >= 20);
+}
+
+/// The parts of the session's left term, and the empty answers.
+#[test]
+fn a_part_is_looked_up_with_its_depth() {
+    let sizes: Vec<(usize, usize)> = (0..8)
+        .map(|at| part(&LEFT, at))
+        .map(|found| (found.words.len(), found.depth))
+        .collect();
+    assert_eq!(
+        sizes,
+        [(6, 4), (3, 3), (2, 2), (1, 1), (2, 2), (1, 1), (0, 0), (0, 0)]
+    );
+    assert_eq!(part(&LEFT, 1).words, &LEFT[1..4]);
+    assert_eq!(part(&LEFT, usize::MAX).depth, 0);
+    assert_eq!(part(&[word(27, 3), TYPE], 0).depth, 0);
+    assert_eq!(part(&LEFT[..3], 0).depth, 0);
+    assert_eq!(part(&[], 0).depth, 0);
+}
+
+/// Conjugates of 0, each one level deeper; what stands behind the part says nothing.
+#[test]
+fn the_depth_of_a_part_is_exact() {
+    for deep in [1, 2, 64, 65, 66, 300, 4097, 4098, 20_000] {
+        let mut words = vec![word(9, 0); deep - 1];
+        words.extend([word(5, 0), 0, 0xFFFF]);
+        let found = part(&words, 0);
+        assert_eq!((found.words.len(), found.depth), (deep, deep));
+    }
 }

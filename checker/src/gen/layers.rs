@@ -146,7 +146,7 @@ impl Gen {
 /// Puts conjugates or adjoints before a term, which keep its type, until it is
 /// so deep, or less by one: the words, and where the term now begins.
 pub(super) fn deepened(want: &Want, words: &[u16], wanted: usize) -> (Vec<u16>, usize) {
-    let missing = wanted.saturating_sub(depth(words).unwrap_or(DEPTH));
+    let missing = wanted.saturating_sub(part(words, 0).depth);
     let (head, above) = match want {
         Scalar => (CONJ, missing),
         _ => (ADJ, missing / 2 * 2),

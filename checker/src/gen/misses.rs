@@ -92,7 +92,7 @@ impl Gen {
     /// Takes a child off a sum or product, or doubles one.
     fn recount(&mut self, words: &mut Vec<u16>, place: usize) {
         let child = *self.rng.pick(&children(words, place));
-        let one = part(words, child).to_vec();
+        let one = part(words, child).words.to_vec();
         let n = usize::from(low(words[place]));
         if n == CHILDREN || n > 1 && self.rng.once_in(2) {
             words.drain(child..child + one.len());
@@ -106,7 +106,7 @@ impl Gen {
     /// Puts another part of its sort in the place of one, where one is found.
     /// Half of the time it begins with another word: the others can differ late.
     pub(super) fn exchange(&mut self, words: &mut Vec<u16>, at: usize) {
-        let old = part(words, at).to_vec();
+        let old = part(words, at).words.to_vec();
         let early = self.rng.once_in(2);
         let differs = |new: &Vec<u16>| if early { new[0] != old[0] } else { *new != old };
         let new = (0..10).find_map(|_| self.alike(&old).filter(differs));
@@ -136,7 +136,7 @@ impl Gen {
 /// Leaves of a sum or product only the child that the step names.
 fn leave_one(words: &mut Vec<u16>, step: &mut Step) {
     let place = usize::from(step.place);
-    let whole = part(words, place);
+    let whole = part(words, place).words;
     let child = parts(&whole[1..]).nth(step.i.into()).unwrap_or(&[]);
     let alone = [&[word(head(whole[0]), 1)], child].concat();
     words.splice(place..place + whole.len(), alone);
@@ -172,10 +172,10 @@ fn wanted_by_law(law: &Law, words: &[u16], place: usize) -> Vec<usize> {
     for item in law.left.get() {
         let (more, length) = match *item {
             Item::Word(_) => (at > place, 1),
-            Item::Each { .. } => (true, part(words, at).len()),
+            Item::Each { .. } => (true, part(words, at).words.len()),
             Item::Part(slot) => {
                 let again = std::mem::replace(&mut met[usize::from(slot)], true);
-                (again, part(words, at).len())
+                (again, part(words, at).words.len())
             }
         };
         out.extend(more.then_some(at));
@@ -188,7 +188,7 @@ fn wanted_by_law(law: &Law, words: &[u16], place: usize) -> Vec<usize> {
 fn children(words: &[u16], at: usize) -> Vec<usize> {
     let mut begin = at + 1;
     let mut out = Vec::new();
-    for child in parts(&part(words, at)[1..]) {
+    for child in parts(&part(words, at).words[1..]) {
         out.push(begin);
         begin += child.len();
     }

@@ -59,7 +59,7 @@ impl Gen {
     /// An instance in a term so deep that the result is about 64 deep.
     pub(super) fn deep(&mut self) -> (Vec<u16>, Step) {
         let (want, words, mut step) = self.inside();
-        let deep = |words: &[u16]| depth(words).unwrap_or(DEPTH);
+        let deep = |words: &[u16]| part(words, 0).depth;
         let after = self.rng.within(DEPTH, DEPTH + 1);
         let before = after + deep(&words) - deep(&self.result(&words, step));
         let (words, above) = deepened(&want, &words, before.min(DEPTH));

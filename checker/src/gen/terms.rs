@@ -20,7 +20,7 @@ pub fn factors(index: &[u16]) -> Option<(Vec<u16>, Vec<u16>)> {
     if head(first) != PRODUCT {
         return None;
     }
-    let (left, right) = rest.split_at(part(rest, 0).len());
+    let (left, right) = split_part(rest);
     Some((left.to_vec(), right.to_vec()))
 }
 

@@ -20,7 +20,7 @@ impl Gen {
         let mut scratch = vec![0; WORDS];
         let mut found = Vec::new();
         for place in 0..words.len() {
-            let part = part(words, place);
+            let part = part(words, place).words;
             let n = match form(head(part[0])) {
                 Form::Count => usize::from(low(part[0])),
                 _ => 1,

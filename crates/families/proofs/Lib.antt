@@ -19,4 +19,5 @@ mod Collected
 mod Gathered
 pub mod Lines
 mod Dispatched
+pub mod Depths
 pub mod Theorems

@@ -51,7 +51,7 @@ unfolding familyOf
 other-family Γ n i j ws row e h = other-by Γ n i j row e h (parse ws) (ruleOf n) refl
 
 -- ---- the part's own words
-module _ (ws : List ℕ) (end : ℕ) (ends : end ≡ 0 + length (part ws 0)) where
+module _ (ws : List ℕ) (end : ℕ) (ends : end ≡ length (part ws 0)) where
   pub no-part : (Γ : Context) (n i j : ℕ) → end ≡ 0 → familyOf Γ n i j ws ≡ none
   unfolding familyOf part
   no-part Γ n i j z = let h : length (part ws 0) ≡ 0 = omega (arith, ends, z) in none-first Γ (ruleOf n) i j (parse ws) h

@@ -4,9 +4,10 @@ use mathlib.Core.Bool.{Bool, true, false, cond}
 use mathlib.Core.List.{List}
 use mathlib.Core.Option.{Option, some, none}
 use Prim.Native.Nat.{ℕ}
+use lib.ListN.{length}
 use Rattle.words.specs.Words.{Added}
 use Rattle.term.specs.Trees.{Tree, Forest, none as no-tree, _▹_, words}
-use Rattle.term.specs.Parts.{parse}
+use Rattle.term.specs.Parts.{parse, part, partDepth}
 use Rattle.types.specs.Sorts.{Context}
 use Rattle.rules.specs.Table.{Rule, _⇒_▷_, spreading, removing, absorbing, merging, collecting, swapping, ruleOf}
 use Rattle.rules.specs.Rewrite.{rewrite}
@@ -39,7 +40,24 @@ abbrev pub Wrote : Bool → List ℕ → List ℕ → ℕ → List ℕ → Rewri
 Wrote true ws out at out′ r = (r .code ≡ 0) × Added out at ws out′ (r .end)
 Wrote false ws out at out′ r = (r .code ≡ 23) × (r .end ≡ 0) × (out′ ≡ out)
 
--- an answer without the size of the part
+-- Whether a rule may leave a part deeper: one that removes, absorbs, merges or exchanges does not
+unfoldable pub mayDeepen : Option Rule → Bool
+mayDeepen none = true
+mayDeepen (some (k ⇒ l ▷ r)) = true
+mayDeepen (some (spreading l w s r)) = true
+mayDeepen (some (removing l c)) = false
+mayDeepen (some absorbing) = false
+mayDeepen (some merging) = false
+mayDeepen (some (collecting u v)) = true
+mayDeepen (some swapping) = false
+
+-- what is told of the part, as a lookup hands it back: how many words it has and, where the rule of the number may leave it deeper, how deep it is
+pub record Measures (n : ℕ) (ws : List ℕ) (r : Replaced) : Type 0 where
+  pub size : r .size ≡ length (part ws 0)
+  pub deepens : r .deepens ≡ mayDeepen (ruleOf n)
+  pub depth : r .depth ≡ cond (mayDeepen (ruleOf n)) (partDepth ws 0) 0
+
+-- an answer without them
 abbrev pub written : Replaced → Rewritten
 written r = record { code = r .code; end = r .end }
 

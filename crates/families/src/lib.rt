@@ -16,16 +16,19 @@ use crate::writing::Rewritten;
 use crate::writing::refused;
 use rulebook::Row;
 use rulebook::row_of;
+use term::parts::part_at;
 use term::parts::part_end;
 ghost use mathlib.Core.Path.{_≡_};
 ghost use mathlib.Core.Logic.{_≢_};
-ghost use Prim.Native.Nat.{_+_};
+ghost use mathlib.Core.Bool.{cond, _||_};
+ghost use lib.Dec.{ltb, eqb};
 ghost use lib.ListN.{length};
-ghost use Rattle.term.specs.Parts.{Whole, part};
+ghost use Rattle.term.specs.Parts.{Whole, part, partDepth};
 ghost use Rattle.types.specs.Sorts.{Context};
 ghost use Rattle.rules.specs.Table.{Rule};
+ghost use Rattle.rulebook.specs.Code.Rows.{rowOf};
 ghost use Rattle.families.specs.Code.Families.{Does, Lined};
-ghost use Rattle.families.specs.Writing.{Writes, written, familyOf};
+ghost use Rattle.families.specs.Writing.{Writes, Measures, written, familyOf};
 
 // Spreading over the child that the row names, and then `i` is to be 0, or over child `i`.
 fn spread_by(ws: &[u16], row: Row, i: usize, out: &mut [u16]) -> Rewritten
@@ -62,15 +65,22 @@ fn apply_family(ws: &[u16], row: Row, i: usize, out: &mut [u16]) -> Rewritten
     swap(ws, i, out, 0)
 }
 
-// What the rule of a number makes of the part that is the first `end` of the words.
-fn family_at(ws: &[u16], end: usize, rule: usize, i: usize, j: usize, out: &mut [u16]) -> Rewritten
-    requires { ⌜ end ≡ 0 + length (part (now ws) 0) ⌝ }
+// What the rule of a number, with its row, makes of the part that is the first `end` of the words.
+fn family_at(
+    ws: &[u16],
+    end: usize,
+    rule: usize,
+    row: Row,
+    i: usize,
+    j: usize,
+    out: &mut [u16],
+) -> Rewritten
+    requires { ⌜ (end ≡ length (part (now ws) 0)) × (row ≡ rowOf rule) ⌝ }
     ensures { λ r. ⌜ ((Γ : Context) → Writes (familyOf Γ rule i j (now (ws .entry))) (now (out .entry)) 0 (now (out .exit)) r) ⌝ }
 {
     if end == 0 {
         return refused(22);
     }
-    let row = row_of(rule);
     if row.family <= 1 {
         return refused(22);
     }
@@ -84,15 +94,53 @@ fn family_at(ws: &[u16], end: usize, rule: usize, i: usize, j: usize, out: &mut 
     apply_family(part, row, i, out)
 }
 
+// Whether a rule of a family may leave a part deeper: one that removes, absorbs, merges or exchanges does not.
+fn may_deepen(family: u16) -> bool
+    ensures { λ r. ⌜ r ≡ (ltb family 3 || eqb family 6) ⌝ }
+{
+    if family < 3 {
+        return true;
+    }
+    family == 6
+}
+
+// The size of a part, and its depth where that is asked for.
+struct Extent {
+    size: usize,
+    depth: usize,
+}
+
+// The part with which the words begin: one walk tells where it ends, and how deep it is too where that is asked for.
+fn extent_of(ws: &[u16], deepens: bool) -> Extent
+    ensures { λ r. ⌜ (r .size ≡ length (part (now (ws .entry)) 0)) × (r .depth ≡ cond deepens (partDepth (now (ws .entry)) 0) 0) ⌝ }
+{
+    if deepens {
+        let mut depth = 0;
+        let part = part_at(ws, 0, &mut depth);
+        return Extent {
+            size: part.len(),
+            depth,
+        };
+    }
+    Extent {
+        size: part_end(ws, 0),
+        depth: 0,
+    }
+}
+
 // What the rule of a number makes of the part with which the words begin: 22 where no whole part does, and for a number that is no family's.
 pub fn rewrite_family(ws: &[u16], rule: usize, i: usize, j: usize, out: &mut [u16]) -> Replaced
-    ensures { λ r. ⌜ ((Γ : Context) → Writes (familyOf Γ rule i j (now (ws .entry))) (now (out .entry)) 0 (now (out .exit)) (written r)) × (r .size ≡ 0 + length (part (now (ws .entry)) 0)) ⌝ }
+    ensures { λ r. ⌜ ((Γ : Context) → Writes (familyOf Γ rule i j (now (ws .entry))) (now (out .entry)) 0 (now (out .exit)) (written r)) × Measures rule (now (ws .entry)) r ⌝ }
 {
-    let size = part_end(ws, 0);
-    let made = family_at(ws, size, rule, i, j, out);
+    let row = row_of(rule);
+    let deepens = may_deepen(row.family);
+    let part = extent_of(ws, deepens);
+    let made = family_at(ws, part.size, rule, row, i, j, out);
     Replaced {
         code: made.code,
         end: made.end,
-        size,
+        size: part.size,
+        deepens,
+        depth: part.depth,
     }
 }

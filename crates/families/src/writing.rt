@@ -7,11 +7,13 @@ pub struct Rewritten {
     pub end: usize,
 }
 
-// The same of the part with which words begin, and how many words that part has.
+// The same of the part with which words begin: how many words that part has, and whether the rule may leave it deeper; then also how deep it is, and else 0.
 pub struct Replaced {
     pub code: usize,
     pub end: usize,
     pub size: usize,
+    pub deepens: bool,
+    pub depth: usize,
 }
 
 pub fn refused(code: usize) -> Rewritten

@@ -1,4 +1,4 @@
-// The library for others: the replay, the run, the single step, the typing and the constructors as functions of plain numbers and lent slices, which C and Rust can call. Nothing is
+// The library for others: the replay, the run, the single step, the typing, the lookup of a part and the constructors as functions of plain numbers and lent slices, which C and Rust can call. Nothing is
 // relied on. Where a function hands out an answer as numbers, a slice for it of another size is refused: the function returns 1 and touches nothing.
 use declarations::constructor::Put;
 use declarations::constructor::put_basis;
@@ -11,6 +11,7 @@ use step::run::Answer;
 use step::run::run_steps;
 use step::single::take_step;
 use term::parts::Side;
+use term::parts::part_at;
 use typing::terms::Typing;
 use typing::terms::sizes_of;
 use typing::terms::type_term;
@@ -19,6 +20,7 @@ ghost use mathlib.Core.Path.{_≡_};
 ghost use mathlib.Core.Bool.{cond, _&&_};
 ghost use lib.Dec.{eqb};
 ghost use lib.ListN.{length, getD};
+ghost use Rattle.term.specs.Parts.{part, partDepth};
 ghost use Rattle.declarations.specs.Declarations.{isIndex, isVariable};
 ghost use Rattle.declarations.specs.Put as P;
 ghost use Rattle.typing.specs.Answers.{typingOf};
@@ -186,6 +188,16 @@ pub extern "C" fn fejogbu_typing(
     put_numbers(answer, t);
     put_words(rows, columns, t);
     0
+}
+
+// The part that begins at the offset `at` of any words: how many words it has, and its depth; 0 and 0 where none begins there.
+#[no_mangle]
+pub extern "C" fn fejogbu_part(words: &[u16], at: usize, depth: &mut usize) -> usize
+    ensures returned { λ r. ⌜ r ≡ length (part (now (words .entry)) at) ⌝ }
+    ensures deep { λ _. ⌜ now (depth .exit) ≡ partDepth (now (words .entry)) at ⌝ }
+{
+    let found = part_at(words, at, depth);
+    found.len()
 }
 
 fn put_number(put: Put) -> u64

@@ -1,6 +1,7 @@
 -- The rule of a row at a site: an equation, or a family's.
-use mathlib.Core.Path.{_≡_, refl}
+use mathlib.Core.Path.{_≡_, refl, sym, _∙_}
 use mathlib.Core.Logic.{_≢_}
+use mathlib.Core.Bool.{true}
 use mathlib.Core.List.{List}
 use mathlib.Core.Option.{some}
 use Prim.Native.Nat.{ℕ}
@@ -13,8 +14,9 @@ use Rattle.rulebook.specs.declared.Row.{Row}
 use Rattle.rulebook.specs.Code.Rows.{rowOf}
 use Rattle.families.specs.declared.writing.Rewritten.{Rewritten}
 use Rattle.families.specs.Code.Families.{Lined, an-equation, a-spreading, a-removing, an-absorbing, a-merging, a-collecting, a-swapping}
-use Rattle.families.specs.Writing.{familyOf, Writes}
+use Rattle.families.specs.Writing.{mayDeepen, familyOf, Writes}
 use Rattle.families.proofs.Lines.{lined, ruled}
+use Rattle.families.proofs.Depths.{row-deepens}
 use Rattle.families.proofs.Theorems.{at-part}
 use Rattle.step.specs.Code.Site.{Site, Equation}
 
@@ -30,6 +32,10 @@ equation-by n (a-swapping f) e h z = absurd (omega (arith, f, z))
 
 pub equation-of : (n : ℕ) (row : Row) → row ≡ rowOf n → row .family ≡ 1 → Equation n row
 equation-of n row h z = let k = ruled n row h (λ y. omega (arith, y, z)) in equation-by n (k .lines) (k .is) h z .0
+
+-- an equation may leave a part deeper
+pub equation-deepens : (n : ℕ) (row : Row) → row ≡ rowOf n → row .family ≡ 1 → mayDeepen (ruleOf n) ≡ true
+equation-deepens n row h z = sym (row-deepens n row h) ∙ rw z
 
 module _ (n : ℕ) (row : Row) (h : row ≡ rowOf n) (Γ : Context) (rule : Rule) (is : ruleOf n ≡ some rule) (i j : ℕ) (out : List ℕ) (at : ℕ) (out′ : List ℕ) (r : Rewritten) where
   pub equates : (t : Tree) → row .family ≡ 1 → ((e : Equation n row) → Writes (rewrite Γ (e .kind ⇒ e .left ▷ e .right) i j t) out at out′ r) → Writes (rewrite Γ rule i j t) out at out′ r

@@ -10,12 +10,12 @@ use lib.Dec.{ltb, leb}
 use lib.ListN.{length, take, drop, length-append, length-drop}
 use Rattle.words.specs.Words.{Added}
 use Rattle.term.specs.Trees.{Tree, Forest, node, none, _▹_, count, words, words*, depth, depth*, replace, replace*, level, level*}
-use Rattle.term.specs.Parts.{parse, first, part}
-use Rattle.term.specs.Terms.{maxWords, maxDepth, maxChildren, firstDepth, partDepth, levelAt}
+use Rattle.term.specs.Parts.{parse, first, firstDepth, part, partDepth}
+use Rattle.term.specs.Terms.{maxWords, maxDepth, maxChildren, levelAt}
 use Rattle.term.proofs.Parsing.{parse-tree}
 use Rattle.term.proofs.Theorems.{one-reading}
 use Rattle.term.proofs.Scan.{part-length}
-use Rattle.term.proofs.Places.{place, subtree-inside, subtree-formed, replace-formed, words-replace, length-replace, level-replace, depth-replace, level-words, part-there}
+use Rattle.term.proofs.Places.{place, subtree-inside, subtree-formed, replace-formed, words-replace, length-replace, level-replace, depth-replace, level-words}
 use Rattle.rules.specs.Steps.{few, few*, within, limited}
 use Rattle.rules.proofs.Formed.{formed-few}
 use Rattle.families.specs.declared.writing.Rewritten.{Rewritten}
@@ -104,11 +104,11 @@ unfolding partDepth part
 part-shallow ws = omega (arith, first-few (parse (drop 0 ws)), part-length ws 0)
 
 -- ---- a part in its place
-module _ {term : List ℕ} {at : ℕ} (f : Seated term at) where
+module _ {term : List ℕ} {at : ℕ} {deepens : Bool} {old : ℕ} {new : List ℕ} (f : Seated term at deepens old new) where
   seat-inside : at < length (words (f .tree))
   seat-inside = subtree-inside (f .tree) at (f .part) (f .there)
 
-  pub seat-level : levelAt term at ≡ level (f .tree) at
+  seat-level : levelAt term at ≡ level (f .tree) at
   seat-level = rw (← f .is) (level-words (f .tree) at (f .formed) seat-inside)
 
   pub seat-below : levelAt term at ≤ at
@@ -122,17 +122,19 @@ module _ {term : List ℕ} {at : ℕ} (f : Seated term at) where
       let w : words (replace (f .tree) at (f .part)) ≡ words (f .tree) = rw (← x) (p .replaced (p .here) ∙ sym (p .whole)) in
       one-reading _ _ (replace-formed (f .tree) at (f .part) (f .formed) (subtree-formed (f .tree) at (f .part) (f .formed) (f .there))) (f .formed) w
 
-  seat-depth : partDepth term at ≡ depth (f .part)
-  unfolding partDepth firstDepth
-  seat-depth = rw (← f .is, part-there (f .tree) at (f .part) (f .formed) (f .there) .1)
-
-  pub seat-fits : levelAt term at + partDepth term at ≤ maxDepth
-  seat-fits =
+  part-fits : levelAt term at + depth (f .part) ≤ maxDepth
+  part-fits =
       let d = ap depth same-replaced in
-      omega (arith, level-replace (f .tree) at (f .part) seat-inside, f .shallow, seat-level, seat-depth)
+      omega (arith, level-replace (f .tree) at (f .part) seat-inside, f .shallow, seat-level)
+
+  pub seat-fits : deepens ≡ true → levelAt term at + old ≤ maxDepth
+  seat-fits e = rw (f .was e) part-fits
+
+  pub seat-flat : deepens ≡ false → levelAt term at + partDepth new 0 ≤ maxDepth
+  seat-flat e = omega (arith, f .flat e, part-fits)
 
 -- ---- a fresh part in its term
-module _ {term : List ℕ} {at end : ℕ} {out : List ℕ} {new : ℕ} (f : Fresh term at end out new) where
+module _ {term : List ℕ} {at end : ℕ} {deepens : Bool} {old : ℕ} {out : List ℕ} {new : ℕ} (f : Fresh term at end deepens old out new) where
   abbrev whole : Tree
   whole = replace (f .tree) at (f .result)
 
@@ -166,12 +168,21 @@ module _ {term : List ℕ} {at end : ℕ} {out : List ℕ} {new : ℕ} (f : Fres
   unfolding partDepth firstDepth
   result-depth h = rw (f .written h, parse-tree (f .result) (f .result-formed))
 
-  pub seated : Seated term at
-  seated = record { tree = f .tree; is = f .is; formed = f .formed; shallow = f .shallow; part = f .part; there = f .there }
+  pub seated : length (words (f .result)) ≤ maxWords → Seated term at deepens old (take new out)
+  seated h =
+      record {
+        tree = f .tree;
+        is = f .is;
+        formed = f .formed;
+        shallow = f .shallow;
+        part = f .part;
+        there = f .there;
+        was = f .was;
+        flat = λ e. rw (result-depth h) (f .flat e);
+      }
 
   pub place-level : levelAt term at ≡ level (f .tree) at
-  unfolding seated
-  place-level = seat-level seated
+  place-level = rw (← f .is) (level-words (f .tree) at (f .formed) inside)
 
   -- ---- the four ends
   refused-made : (out′ : List ℕ) (r : Rewritten) → limited (f .tree) whole ≡ record { code = 23; tree = f .tree } → length out′ ≡ maxWords → r .code ≡ 23 → Made (f .tree) (limited (f .tree) whole) at out′ r

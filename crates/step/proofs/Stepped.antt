@@ -14,8 +14,8 @@ use lib.ListN.{length, take, drop, length-append, length-drop}
 use lib.Seq.{drop-at}
 use Rattle.words.specs.Words.{Added}
 use Rattle.words.proofs.Runs.{to-end}
-use Rattle.term.specs.Trees.{Tree, Forest, node, none as no-tree, _▹_, count, words, words*, Formed, Subtree, outside, found, subtree, replace, replace*}
-use Rattle.term.specs.Parts.{parse, first, part}
+use Rattle.term.specs.Trees.{Tree, Forest, node, none as no-tree, _▹_, count, words, words*, Formed, depth, Subtree, outside, found, subtree, replace, replace*}
+use Rattle.term.specs.Parts.{parse, first, firstDepth, part, partDepth}
 use Rattle.term.specs.Terms.{maxWords, maxChildren}
 use Rattle.term.proofs.Parsing.{parse-words}
 use Rattle.term.proofs.Places.{place, subtree-inside, subtree-formed, subtree-depth}
@@ -32,7 +32,9 @@ use Rattle.rules.proofs.Rules.{decides}
 use Rattle.rulebook.specs.declared.Row.{Row}
 use Rattle.rulebook.specs.Code.Rows.{rowOf}
 use Rattle.families.specs.declared.writing.Rewritten.{Rewritten}
-use Rattle.families.specs.Writing.{Writes}
+use Rattle.families.specs.declared.writing.Replaced.{Replaced}
+use Rattle.families.specs.Writing.{mayDeepen, Writes, Measures}
+use Rattle.families.proofs.Depths.{no-deeper}
 use Rattle.families.proofs.Written.{Way, refused, done, exceeded, way, way-size}
 use Rattle.families.proofs.Lines.{Ruled, unruled}
 use Rattle.step.specs.Code.Making.{Termed, Fresh, Made}
@@ -96,13 +98,14 @@ module _ {ds term : List ℕ} (x : Termed ds term) (k : ℕ) (inside : k < lengt
   site-tree = refl
 
   -- and where the part ends in them
-  pub site-size : (end : ℕ) → end ≡ 0 + length (part tail 0) → end ≡ length (words (site .tree))
-  unfolding part first
-  site-size end e =
-      let p : part tail 0 ≡ words (site .tree) = rw (site .whole, parse-words (site .tree) (site .formed) (site .after)) refl in
-      omega (arith, e, ap length p)
+  site-part : (part tail 0 ≡ words (site .tree)) × (partDepth tail 0 ≡ depth (site .tree))
+  unfolding part partDepth first firstDepth
+  site-part = rw (site .whole, parse-words (site .tree) (site .formed) (site .after)) (refl, refl)
 
-  pub site-room : (end : ℕ) → end ≡ 0 + length (part tail 0) → k + end ≤ maxWords
+  site-size : (end : ℕ) → end ≡ length (part tail 0) → end ≡ length (words (site .tree))
+  site-size end e = e ∙ ap length (site-part .0)
+
+  pub site-room : (end : ℕ) → end ≡ length (part tail 0) → k + end ≤ maxWords
   site-room end e = omega (arith, inside, site-end site (site-size end e), ap length (to-end term k), length-drop k term, x .typed .form .short, ap length (x .is))
 
 -- ---- a result with too many children somewhere has them in its place too
@@ -187,14 +190,23 @@ module _ {ds term : List ℕ} (x : Termed ds term) (s : Step) where
         let i = decides (contextIn ds) W (s .rule) (k .rule) (k .is) (s .i) (s .j) here q formed (p .0) (p .1) .0 e in
         typed-formed W (rule-keeps W (s .rule) (k .rule) (k .is) (s .i) (s .j) here q (p .0) i (p .1)) f
 
-    -- and where it did not, with the part's end
-    module _ (end : ℕ) (ends : end ≡ 0 + length (part (take (length term - s .place) (drop (s .place) term)) 0)) where
+    -- and where it did not, with what is told of the part
+    module _ {m : Replaced} (part-is : Measures (s .rule) (take (length term - s .place) (drop (s .place) term)) m) where
       pub record Fine : Type 0 where
-        pub fresh : Fresh term (s .place) (s .place + end) out (r .end)
+        pub fresh : Fresh term (s .place) (s .place + m .size) (m .deepens) (m .depth) out (r .end)
         same : fresh .tree ≡ x .tree
         steps : after ≡ limited (fresh .tree) (replace (fresh .tree) (s .place) (fresh .result))
 
-      fresh-of : (q : Tree) → result ≡ some q → few q ≡ true → Added old 0 (words q) out (r .end) → Fresh term (s .place) (s .place + end) out (r .end)
+      deepens-is : m .deepens ≡ mayDeepen (some (k .rule))
+      deepens-is = part-is .deepens ∙ ap mayDeepen (k .is)
+
+      was-deep : m .deepens ≡ true → m .depth ≡ depth here
+      was-deep z = (rw (sym (part-is .deepens) ∙ z) at (part-is .depth)) ∙ site-part x (s .place) inside .1 ∙ ap depth (site-tree x (s .place) inside)
+
+      stays-flat : (q : Tree) → result ≡ some q → m .deepens ≡ false → depth q ≤ depth here
+      stays-flat q e z = no-deeper (k .rule) (sym deepens-is ∙ z) (contextIn ds) (s .i) (s .j) here q e
+
+      fresh-of : (q : Tree) → result ≡ some q → few q ≡ true → Added old 0 (words q) out (r .end) → Fresh term (s .place) (s .place + m .size) (m .deepens) (m .depth) out (r .end)
       fresh-of q e f a =
           record {
             tree = x .tree;
@@ -204,9 +216,11 @@ module _ {ds term : List ℕ} (x : Termed ds term) (s : Step) where
             shallow = x .typed .form .shallow;
             part = here;
             there = is-there;
-            ends = ap (λ (n : ℕ). s .place + n) (rw (site-tree x (s .place) inside) at (site-size x (s .place) inside end ends));
+            ends = ap (λ (n : ℕ). s .place + n) (rw (site-tree x (s .place) inside) at (site-size x (s .place) inside (m .size) (part-is .size)));
+            was = was-deep;
             result = q;
             result-formed = result-formed q e f;
+            flat = stays-flat q e;
             size = out-size;
             new-end = rw (size, zero-add) at (a .end);
             written = λ l. let n : r .end ≡ 0 + length (words q) = omega (arith, a .end, size) in rw n (a .front (omega (arith, size)));

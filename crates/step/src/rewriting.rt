@@ -3,20 +3,17 @@ use crate::equations::equate;
 use families::rewrite_family;
 use families::writing::Replaced;
 use rulebook::Row;
-use term::parts::part_end;
+use term::parts::part_at;
 ghost use mathlib.Core.Path.{_≡_};
 ghost use mathlib.Core.Option.{some};
-ghost use Prim.Native.Nat.{_+_};
-ghost use lib.ListN.{length};
-ghost use Rattle.term.specs.Parts.{part};
 ghost use Rattle.declarations.specs.Declarations.{contextIn};
 ghost use Rattle.rules.specs.Table.{Rule, ruleOf};
 ghost use Rattle.rules.specs.Rewrite.{rewrite};
 ghost use Rattle.rulebook.specs.Code.Rows.{rowOf};
-ghost use Rattle.families.specs.Writing.{Writes, written};
+ghost use Rattle.families.specs.Writing.{Writes, Measures, written};
 ghost use Rattle.step.specs.Code.Site.{Site};
 
-// What the rule of a number, with its row, makes of the part with which the words begin, and how many words that part has.
+// What the rule of a number, with its row, makes of the part with which the words begin; and where it is replaced, what `families` tells of the part.
 pub fn rewrite_part(
     ds: &[u16],
     ws: &[u16],
@@ -27,14 +24,27 @@ pub fn rewrite_part(
     out: &mut [u16],
 ) -> Replaced
     requires { ⌜ Site (now ds) (now ws) × (row ≡ rowOf rule) ⌝ }
-    ensures { λ r. ⌜ ((s : Site (now (ds .entry)) (now (ws .entry))) (k : Rule) → ruleOf rule ≡ some k → Writes (rewrite (contextIn (now (ds .entry))) k i j (s .tree)) (now (out .entry)) 0 (now (out .exit)) (written r)) × (r .size ≡ 0 + length (part (now (ws .entry)) 0)) ⌝ }
+    ensures { λ r. ⌜ ((s : Site (now (ds .entry)) (now (ws .entry))) (k : Rule) → ruleOf rule ≡ some k → Writes (rewrite (contextIn (now (ds .entry))) k i j (s .tree)) (now (out .entry)) 0 (now (out .exit)) (written r)) × (r .code ≡ 0 → Measures rule (now (ws .entry)) r) ⌝ }
 {
     if row.family == 1 {
         let made = equate(ds, ws, rule, row, i, j, out);
+        if made.code != 0 {
+            return Replaced {
+                code: made.code,
+                end: made.end,
+                size: 0,
+                deepens: true,
+                depth: 0,
+            };
+        }
+        let mut depth = 0;
+        let part = part_at(ws, 0, &mut depth);
         return Replaced {
             code: made.code,
             end: made.end,
-            size: part_end(ws, 0),
+            size: part.len(),
+            deepens: true,
+            depth,
         };
     }
     rewrite_family(ws, rule, i, j, out)

@@ -4,18 +4,19 @@ use families::writing::Rewritten;
 use families::writing::refused;
 use lent::steps::Step;
 use rulebook::row_of;
-use term::terms::depth_at;
-use term::terms::level_at;
+use term::parts::level_at;
+use term::parts::part_at;
 use words::append;
 use words::clear_from;
 ghost use mathlib.Core.Path.{_≡_};
 ghost use mathlib.Core.List.{_++_};
-ghost use Prim.Native.Nat.{_+_, _-_, _≤_, min};
+ghost use Prim.Native.Nat.{_+_, _-_, _≤_};
 ghost use lib.Dec.{ltb};
 ghost use lib.ListN.{length, take, replicate};
 ghost use Rattle.words.specs.Words.{cleared};
 ghost use Rattle.term.specs.Trees.{words, replace};
-ghost use Rattle.term.specs.Terms.{partDepth, levelAt};
+ghost use Rattle.term.specs.Parts.{partDepth};
+ghost use Rattle.term.specs.Terms.{levelAt};
 ghost use Rattle.declarations.specs.Declarations.{contextIn};
 ghost use Rattle.typing.specs.Answers.{typingOf};
 ghost use Rattle.rules.specs.Steps.{limited, stepOf};
@@ -29,35 +30,50 @@ pub struct Taken {
     pub length: usize,
 }
 
-// Whether a part would pass 64 at a place. The depth of a part takes a walk over it, and the level of a place one back over all that stands
-// before it, so they are asked for only where they decide: a part is no deeper than it has words, a place no more levels down than words
-// stand before it, and what is there now is not too deep.
-fn is_too_deep(term: &[u16], place: usize, part: &[u16]) -> bool
-    requires { ⌜ Seated (now term) place × (place ≤ 4096) × (length (now part) ≤ 4096) ⌝ }
-    ensures { λ r. ⌜ r ≡ ltb 64 (levelAt (now (term .entry)) place + min 65 (partDepth (now (part .entry)) 0)) ⌝ }
+// Whether a part would pass 64 at a place. Where its rule may leave a part deeper, `old` is the depth of what stands there now. The depth of a part takes a walk over it, and the
+// level of a place one back over all that stands before it, so they are asked for only where they decide: a part is no deeper than it has words, a place no more levels down than
+// words stand before it, and what is there now is not too deep.
+fn is_too_deep(term: &[u16], place: usize, deepens: bool, old: usize, part: &[u16]) -> bool
+    requires { ⌜ Seated (now term) place deepens old (now part) × (place ≤ 4096) × (length (now part) ≤ 4096) ⌝ }
+    ensures { λ r. ⌜ r ≡ ltb 64 (levelAt (now (term .entry)) place + partDepth (now (part .entry)) 0) ⌝ }
 {
+    if !deepens {
+        return false;
+    }
     if place + part.len() <= 64 {
         return false;
     }
-    let deep = depth_at(part, 0);
+    if part.len() <= old {
+        return false;
+    }
+    let mut deep = 0;
+    let whole = part_at(part, 0, &mut deep);
     if place + deep <= 64 {
         return false;
     }
-    if deep <= depth_at(term, place) {
+    if deep <= old {
         return false;
     }
     64 < level_at(term, place) + deep
 }
 
 // The limits of the whole result, and the words behind the part. A part's new words stand in the first `new` of `out`.
-fn finish(term: &[u16], place: usize, end: usize, new: usize, out: &mut [u16]) -> Rewritten
-    requires { ⌜ Fresh (now term) place end (now out) new ⌝ }
-    ensures { λ r. ⌜ ((f : Fresh (now (term .entry)) place end (now (out .entry)) new) → Made (f .tree) (limited (f .tree) (replace (f .tree) place (f .result))) place (now (out .exit)) r) ⌝ }
+fn finish(
+    term: &[u16],
+    place: usize,
+    end: usize,
+    deepens: bool,
+    old: usize,
+    new: usize,
+    out: &mut [u16],
+) -> Rewritten
+    requires { ⌜ Fresh (now term) place end deepens old (now out) new ⌝ }
+    ensures { λ r. ⌜ ((f : Fresh (now (term .entry)) place end deepens old (now (out .entry)) new) → Made (f .tree) (limited (f .tree) (replace (f .tree) place (f .result))) place (now (out .exit)) r) ⌝ }
 {
     if 4096 < new {
         return refused(23);
     }
-    if is_too_deep(term, place, &out[..new]) {
+    if is_too_deep(term, place, deepens, old, &out[..new]) {
         return refused(23);
     }
     let done = append(out, new, &term[end..]);
@@ -89,7 +105,15 @@ fn make(ds: &[u16], term: &[u16], s: Step, out: &mut [u16]) -> Rewritten
             end: made.end,
         };
     }
-    finish(term, place, place + made.size, made.end, out)
+    finish(
+        term,
+        place,
+        place + made.size,
+        made.deepens,
+        made.depth,
+        made.end,
+        out,
+    )
 }
 
 // Puts the words of a result from the place on into their slice, which had zeros behind its first `old` words, and zeros behind them.

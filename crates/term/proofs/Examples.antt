@@ -6,8 +6,8 @@ use Prim.Native.Nat.{ℕ, _+_, _*_}
 use Rattle.term.specs.declared.terms.Names.{Names}
 use Rattle.term.specs.Heads.{word, read, unread, labelled, scalar-sum, mulk, adjoint, identity, basis-ket, type-name, basis-name}
 use Rattle.term.specs.Trees.{Tree, node, none, _▹_, words, depth, replace}
-use Rattle.term.specs.Parts.{part}
-use Rattle.term.specs.Terms.{partDepth, declared, termWords, isTerm}
+use Rattle.term.specs.Parts.{part, partDepth}
+use Rattle.term.specs.Terms.{declared, termWords, isTerm}
 
 -- 01, "One session, whole": left=22 18 15 1:0 16 3:0
 abbrev left : List ℕ

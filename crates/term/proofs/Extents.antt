@@ -1,19 +1,18 @@
--- The end and the depth of a part from those of its children.
+-- The end and the depth of a part, as one walk over its words finds them, and its depth from the levels of its words.
 use mathlib.Core.Path.{_≡_, refl, sym, _∙_, ap}
 use mathlib.Core.Logic.{_≢_}
-use mathlib.Core.List.{List, _∷_, _++_, append-assoc, append-nil}
-use Prim.Native.Nat.{ℕ, _+_, _≤_, _<_, min, max}
+use mathlib.Core.List.{List, [], _∷_, _++_, append-assoc, append-nil}
+use Prim.Native.Nat.{ℕ, zero, suc, _+_, _-_, _≤_, _<_, max}
 use native.Mathlib.Numerals.{add-one}
 use native.Mathlib.Omega.{arith}
-use lib.ListN.{length, drop, getD, length-append}
-use lib.Seq.{drop-cons, drop-drop, drop-append-seam}
+use lib.ListN.{length, drop, getD, set, length-append, length-set, drop-of-length-le}
+use lib.Seq.{drop-cons, drop-append-seam, getD-set-same, getD-set-other}
 use Rattle.term.specs.declared.heads.Arity.the-variants.{Unknown, Children}
 use Rattle.term.specs.Heads.{Label, labelled, unread, read, arityOf}
 use Rattle.term.specs.Trees.{Tree, Forest, node, none, _▹_, count, _⧺_, words, words*, Formed, Formed*, depth, depth*}
-use Rattle.term.specs.Parts.{parse, first, part}
-use Rattle.term.specs.Terms.{firstDepth, partDepth}
-use Rattle.term.proofs.Parsing.{⧺-none, ⧺-assoc, count-⧺, words*-⧺, parse-words*, accepted, Grown, unread-word, words-short, planted, grown, parse-node}
-use Rattle.term.proofs.Scan.{read-children, read-unknown}
+use Rattle.term.specs.Parts.{Cut, short, cut, behind, chop, plant, grow, parse, first, firstDepth, part, partDepth}
+use Rattle.term.proofs.Parsing.{⧺-none, words*-⧺, parse-words*, accepted}
+use Rattle.term.proofs.Scan.{read-children, read-unknown, children-few}
 
 pub depth*-⧺ : (f g : Forest) → depth* (f ⧺ g) ≡ max (depth* f) (depth* g)
 unfolding _⧺_ depth
@@ -29,94 +28,175 @@ parse-behind ws t f e =
     let w : words t ++ (words* f ++ a .rest) ≡ ws = sym (append-assoc (words t) (words* f) (a .rest)) ∙ (rw e at (a .whole)) in
     rw (← w, drop-append-seam, parse-words* f (k .1), a .stops, ⧺-none)
 
-few-by : {w : ℕ} {f g : Forest} (l : Label) (n : ℕ) → read w ≡ labelled l n → count f < n → Grown w f g → g ≡ none
-few-by l n e h (unread-word r) = refl
-few-by l n e h (words-short m k r q) = refl
-few-by l n e h (planted m a b r p) = let z : count a ≡ n = cc in absurd (let c = ap count p ∙ count-⧺ a b in omega arith)
+-- ---- the walk. Under each open head, the nearest first, so many parts are still to come
+pub record Reach : Type 0 where
+  pub end : ℕ
+  pub depth : ℕ
 
-unread-by : {w : ℕ} {f g : Forest} → read w ≡ unread → Grown w f g → g ≡ none
-unread-by e (unread-word r) = refl
-unread-by e (words-short m k r q) = refl
-unread-by e (planted m a b r p) = absurd (let z : _≡_ {A = ℕ} 0 1 = cc in omega arith)
+-- what is asked for, and what is answered where there is no part
+abbrev pub asked : List ℕ → ℕ → Reach
+asked ws at = record { end = at + length (part ws at); depth = partDepth ws at }
 
--- ---- a part's children, passed one by one: k of them from the offset `from` up to `next`, with the depth of the deepest counted to a bound
-pub record Passed (ws : List ℕ) (bound from next k deepest : ℕ) : Type 0 where
-  pub children : Forest
-  pub rest : parse (drop from ws) ≡ children ⧺ parse (drop next ws)
-  pub number : count children ≡ k
-  pub place : next ≡ from + length (words* children)
-  pub depths : deepest ≡ min bound (depth* children)
+abbrev missed : ℕ → Reach
+missed at = record { end = at; depth = 0 }
 
-pub passed-none : (ws : List ℕ) (bound from : ℕ) → Passed ws bound from from 0 0
-unfolding _⧺_ count words depth
-passed-none ws bound from = record { children = none; rest = refl; number = refl; place = omega arith; depths = omega arith }
+onCut : Reach → (Forest → Forest → Reach) → Cut → Reach
+onCut r f short = r
+onCut r f (cut a b) = f a b
 
-min-max : (b x y : ℕ) → max (min b x) (min b y) ≡ min b (max x (max y 0))
-min-max b x y = omega arith
+-- Where a walk that has come to i, and been d deep, ends, and how deep it has been then; at `at` and 0 deep where the words do not suffice
+pub reach : ℕ → ℕ → ℕ → List ℕ → Forest → Reach
+reach at i d [] f = record { end = i; depth = d }
+reach at i d (p ∷ ps) f = onCut (missed at) (λ a b. reach at (i + length (words* a)) (max d (length ps + depth* a)) ps b) (chop p f)
 
--- one child more, found at `next`: it is a whole part, since its depth is not 0
-more-by : (ws : List ℕ) (bound from next k deepest : ℕ) → Passed ws bound from next k deepest → (f : Forest) → parse (drop next ws) ≡ f
-    → (d : ℕ) → d ≡ min bound (firstDepth f) → d ≢ 0 → Passed ws bound from (next + length (first f)) (k + 1) (max deepest d)
-unfolding firstDepth first _⧺_ count words depth
-more-by ws bound from next k deepest p none e d h z = absurd (z (omega arith))
-more-by ws bound from next k deepest p (t ▹ f) e d h z =
-    let cs = p .children in
-    let b : parse (drop (next + length (words t)) ws) ≡ f = rw drop-drop at (parse-behind (drop next ws) t f e) in
-    record {
-      children = cs ⧺ (t ▹ none);
-      rest = rw (b, ⧺-assoc) (p .rest ∙ ap (λ (g : Forest). cs ⧺ g) e);
-      number = omega (arith, count-⧺ cs (t ▹ none));
-      place = rw (words*-⧺, append-nil) (simp length-append (omega arith));
-      depths = rw (depth*-⧺, p .depths, h) (min-max bound (depth* cs) (depth t));
-    }
+-- what is asked for is where the walk for one part ends
+begin-by : (at : ℕ) (f : Forest) → reach at at 0 (1 ∷ []) f ≡ record { end = at + length (first f); depth = firstDepth f }
+unfolding reach onCut chop first firstDepth words depth
+begin-by at none = let e : at + 0 ≡ at = omega arith in rw e
+begin-by at (t ▹ f) = let e : max 0 (0 + max (depth t) 0) ≡ depth t = omega arith in rw (append-nil, e)
 
-pub passed-more : {ws : List ℕ} {bound from next k deepest : ℕ} → Passed ws bound from next k deepest
-    → (e d : ℕ) → e ≡ next + length (part ws next) → d ≡ min bound (partDepth ws next) → d ≢ 0 → Passed ws bound from e (k + 1) (max deepest d)
+pub reach-begin : (ws : List ℕ) (at : ℕ) → reach at at 0 (1 ∷ []) (parse (drop at ws)) ≡ asked ws at
 unfolding part partDepth
-passed-more {ws} {bound} {from} {next} {k} {deepest} p e d h g z = rw h (more-by ws bound from next k deepest p (parse (drop next ws)) refl d g z)
+reach-begin ws at = begin-by at (parse (drop at ws))
 
--- ---- what a part is, from its children. `Is ws at e d`: the part at an offset ends at e, and is d deep
-pub record Measured (ws : List ℕ) (at bound e d : ℕ) : Type 0 where
-  pub end : e ≡ at + length (part ws at)
-  pub depth : d ≡ min bound (partDepth ws at)
+module _ (at : ℕ) where
+  -- nothing is left to come under the nearest head
+  pub reach-closed : (i d : ℕ) (ps : List ℕ) (f : Forest) → length ps ≤ d → reach at i d (0 ∷ ps) f ≡ reach at i d ps f
+  unfolding reach onCut chop words depth
+  reach-closed i d ps f h =
+      let e : i + 0 ≡ i = omega arith in
+      let g : max d (length ps + 0) ≡ d = omega arith in
+      rw (e, g)
 
-measured-by : (ws : List ℕ) (at bound e d : ℕ) (f : Forest) → parse (drop at ws) ≡ f → e ≡ at + length (first f) → d ≡ min bound (firstDepth f) → Measured ws at bound e d
-unfolding part partDepth
-measured-by ws at bound e d f r h g = record { end = rw r h; depth = rw r g }
+  -- no part begins
+  reach-stopped : (i d p : ℕ) (ps : List ℕ) → reach at i d (suc p ∷ ps) none ≡ missed at
+  unfolding reach onCut chop
+  reach-stopped i d p ps = refl
 
--- no part, with the end and the depth that say so
-pub measured-none : (ws : List ℕ) (at bound : ℕ) → parse (drop at ws) ≡ none → Measured ws at bound at 0
-unfolding first firstDepth
-measured-none ws at bound r = measured-by ws at bound at 0 none r (omega arith) (omega arith)
+  -- a head with so many children is opened, if there are so many
+  opened-by : (i d p : ℕ) (ps : List ℕ) (l : Label) (a : Forest) (c : Cut)
+      → onCut (missed at) (λ x y. reach at (i + length (words* x)) (max d (length ps + depth* x)) ps y) (behind (node l a) c)
+      ≡ onCut (missed at) (λ x y. reach at (i + 1 + length (words* a) + length (words* x)) (max (max (max d (length ps + 1)) (suc (length ps) + depth* a)) (length ps + depth* x)) ps y) c
+  unfolding onCut behind words depth
+  opened-by i d p ps l a short = refl
+  opened-by i d p ps l a (cut x y) =
+      let e : i + suc (length (words* a ++ words* x)) ≡ i + 1 + length (words* a) + length (words* x) = omega (arith, length-append (words* a) (words* x)) in
+      let g : max d (length ps + max (suc (depth* a)) (depth* x)) ≡ max (max (max d (length ps + 1)) (suc (length ps) + depth* a)) (length ps + depth* x) = omega arith in
+      rw (e, g)
 
-no-depth : (f : Forest) → firstDepth f ≡ 0 → f ≡ none
-unfolding firstDepth depth
-no-depth none e = refl
-no-depth (node l cs ▹ f) e = absurd (omega arith)
+  reach-opened : (i d p n : ℕ) (ps : List ℕ) (l : Label) (c : Cut)
+      → reach at i d (suc p ∷ ps) (plant l c) ≡ onCut (missed at) (λ a b. reach at (i + 1 + length (words* a)) (max (max d (length ps + 1)) (suc (length ps) + depth* a)) (p ∷ ps) b) c
+  unfolding reach onCut plant chop
+  reach-opened i d p n ps l short = refl
+  reach-opened i d p n ps l (cut a b) = opened-by i d p ps l a (chop p b)
 
-module _ (ws : List ℕ) (at : ℕ) (h : at < length ws) where
-  parse-at : parse (drop at ws) ≡ parse (getD ws at 0 ∷ drop (at + 1) ws)
-  parse-at = rw (add-one, ← drop-cons ws at 0 h)
+-- ---- the same at an offset of the words
+module _ (ws : List ℕ) (at i : ℕ) (h : i < length ws) where
+  parse-at : parse (drop i ws) ≡ grow (read (getD ws i 0)) (parse (drop (i + 1) ws))
+  unfolding parse
+  parse-at = rw (add-one, drop-cons ws i 0 h)
 
-  pub measured-unknown : (bound : ℕ) → arityOf (getD ws at 0) ≡ Unknown → Measured ws at bound at 0
-  measured-unknown bound e = measured-none ws at bound (parse-at ∙ unread-by (read-unknown _ e) (grown _ _))
+  pub reach-unknown : (d p : ℕ) (ps : List ℕ) → arityOf (getD ws i 0) ≡ Unknown → reach at i d (suc p ∷ ps) (parse (drop i ws)) ≡ missed at
+  unfolding grow
+  reach-unknown d p ps e = rw (parse-at, read-unknown _ e) (reach-stopped at i d p ps)
 
-  pub measured-short : {bound next k n deepest : ℕ} → arityOf (getD ws at 0) ≡ Children n → Passed ws bound (at + 1) next k deepest → k < n
-      → 0 < bound → 0 ≡ min bound (partDepth ws next) → Measured ws at (bound + 1) at 0
-  unfolding partDepth
-  measured-short {bound} {next} {k} {n} e p l z d =
-      let r = read-children (getD ws at 0) n e in
-      let none-there = no-depth (parse (drop next ws)) (omega arith) in
-      let c = ap count (p .rest ∙ ap (λ (g : Forest). p .children ⧺ g) none-there ∙ ⧺-none (p .children)) in
-      measured-none ws at (bound + 1) (parse-at ∙ few-by (r .0) n (r .1) (omega arith) (grown _ _))
+  pub reach-more : (d p n : ℕ) (ps : List ℕ) → arityOf (getD ws i 0) ≡ Children n
+      → reach at i d (suc p ∷ ps) (parse (drop i ws)) ≡ reach at (i + 1) (max d (length ps + 1)) (n ∷ p ∷ ps) (parse (drop (i + 1) ws))
+  unfolding grow reach
+  reach-more d p n ps e =
+      let r = read-children _ n e in
+      rw (parse-at, r .1) (reach-opened at i d p n ps (r .0) (chop n (parse (drop (i + 1) ws))))
 
-  pub measured-all : {bound next n deepest : ℕ} → arityOf (getD ws at 0) ≡ Children n → Passed ws bound (at + 1) next n deepest
-      → Measured ws at (bound + 1) next (deepest + 1)
-  unfolding first firstDepth words depth
-  measured-all {bound} {next} {n} {deepest} e p =
-      let r = read-children (getD ws at 0) n e in
-      let q : read (getD ws at 0) ≡ labelled (r .0) (count (p .children)) = rw (p .number) (r .1) in
-      measured-by ws at (bound + 1) next (deepest + 1) _ (parse-at ∙ parse-node _ (r .0) (p .children) q _ _ (p .rest)) (omega arith) (omega arith)
+-- ---- the counts as the code keeps them: those of the first k heads, the nearest first
+pub pend : List ℕ → ℕ → List ℕ
+pend o zero = []
+pend o (suc k) = getD o k 0 ∷ pend o k
+
+pend-length : (o : List ℕ) (k : ℕ) → length (pend o k) ≡ k
+unfolding pend
+pend-length o zero = refl
+pend-length o (suc k) = ap suc (pend-length o k)
+
+pend-top : (o : List ℕ) (k v : ℕ) → 0 < k → v ≡ getD o (k - 1) 0 → pend o k ≡ v ∷ pend o (k - 1)
+unfolding pend
+pend-top o zero v h e = absurd (omega arith)
+pend-top o (suc k) v h e = let z : suc k - 1 ≡ k = omega arith in rw (e, z)
+
+pend-set : (o : List ℕ) (k v j : ℕ) → j ≤ k → pend (set o k v) j ≡ pend o j
+unfolding pend
+pend-set o k v zero h = refl
+pend-set o k v (suc j) h = let r = pend-set o k v j (omega arith) in rw (getD-set-other o k j v 0 (λ e. omega (arith, e)), r)
+
+-- what is known before each word
+pub record Walked (ws : List ℕ) (at : ℕ) (outer : List ℕ) (left level deepest i : ℕ) : Type 0 where
+  pub few : left ≤ 255
+  pub room : level ≤ length outer
+  pub deep : level ≤ deepest
+  pub rest : reach at i deepest (left ∷ pend outer level) (parse (drop i ws)) ≡ asked ws at
+
+-- and what that tells, once the walk knows where it ends
+abbrev pub Told : List ℕ → ℕ → ℕ → ℕ → Type 0
+Told ws at e d = (e ≡ at + length (part ws at)) × (d ≡ partDepth ws at)
+
+told-by : (ws : List ℕ) (at e d : ℕ) → _≡_ {A = Reach} (record { end = e; depth = d }) (asked ws at) → Told ws at e d
+told-by ws at e d h = (ap (λ (r : Reach). r .end) h, ap (λ (r : Reach). r .depth) h)
+
+module _ {ws : List ℕ} {at : ℕ} {outer : List ℕ} where
+  pub walked-begin : Walked ws at outer 1 0 0 at
+  unfolding pend
+  walked-begin = record { few = omega arith; room = omega arith; deep = omega arith; rest = reach-begin ws at }
+
+  pub walked-end : {d i : ℕ} → Walked ws at outer 0 0 d i → Told ws at i d
+  unfolding pend reach
+  walked-end {d} {i} w = told-by ws at i d (sym (reach-closed at i d [] (parse (drop i ws)) (omega arith)) ∙ w .rest)
+
+  pub walked-close : {level d i : ℕ} → Walked ws at outer 0 level d i → 0 < level → (left : ℕ) → left ≡ getD outer (level - 1) 0 → left ≤ 255 → Walked ws at outer left (level - 1) d i
+  unfolding pend
+  walked-close {level} {d} {i} w h left e few =
+      let p : pend outer level ≡ left ∷ pend outer (level - 1) = pend-top outer level left h e in
+      record {
+        few = few;
+        room = omega (arith, w .room);
+        deep = omega (arith, w .deep);
+        rest = sym (reach-closed at i d (left ∷ pend outer (level - 1)) (parse (drop i ws)) (omega (arith, w .deep, pend-length outer (level - 1)))) ∙ (rw p at (w .rest));
+      }
+
+  module _ {left level d i : ℕ} (w : Walked ws at outer left level d i) (more : left ≢ 0) where
+    rest-more : reach at i d (suc (left - 1) ∷ pend outer level) (parse (drop i ws)) ≡ asked ws at
+    rest-more = let z : left ≡ suc (left - 1) = omega arith in rw z at (w .rest)
+
+    pub walked-past : length ws ≤ i → Told ws at at 0
+    unfolding parse
+    walked-past h = told-by ws at at 0 (sym (rw (drop-of-length-le ws h) (reach-stopped at i d (left - 1) (pend outer level))) ∙ rest-more)
+
+    pub walked-unknown : i < length ws → arityOf (getD ws i 0) ≡ Unknown → Told ws at at 0
+    walked-unknown h e = told-by ws at at 0 (sym (reach-unknown ws at i h d (left - 1) (pend outer level) e) ∙ rest-more)
+
+    module _ (inside : i < length ws) (n : ℕ) (e : arityOf (getD ws i 0) ≡ Children n) where
+      rest-read : reach at (i + 1) (max d (level + 1)) (n ∷ (left - 1) ∷ pend outer level) (parse (drop (i + 1) ws)) ≡ asked ws at
+      rest-read = rw (pend-length outer level) at (sym (reach-more ws at i inside d (left - 1) n (pend outer level) e) ∙ rest-more)
+
+      pub walked-leaf : n ≡ 0 → Walked ws at outer (left - 1) level (max d (level + 1)) (i + 1)
+      walked-leaf z =
+          let r = rw z at rest-read in
+          record {
+            few = omega (arith, w .few);
+            room = w .room;
+            deep = omega (arith, w .deep);
+            rest = sym (reach-closed at (i + 1) (max d (level + 1)) ((left - 1) ∷ pend outer level) (parse (drop (i + 1) ws)) (omega (arith, pend-length outer level))) ∙ r;
+          }
+
+      pub walked-open : level < length outer → Walked ws at (set outer level (left - 1)) n (level + 1) (max d (level + 1)) (i + 1)
+      unfolding pend
+      walked-open h =
+          let p : pend (set outer level (left - 1)) (suc level) ≡ (left - 1) ∷ pend outer level = rw (getD-set-same outer level (left - 1) 0 h, pend-set outer level (left - 1) level (omega arith)) in
+          let z : level + 1 ≡ suc level = omega arith in
+          record {
+            few = children-few _ _ e;
+            room = omega (arith, length-set outer level (left - 1));
+            deep = omega arith;
+            rest = rw (z, p) (rw z at rest-read);
+          }
 
 -- ---- a part is at least 1 deep
 depth-of : (f : Forest) → 0 < length (first f) → 1 ≤ firstDepth f

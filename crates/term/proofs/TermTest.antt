@@ -11,8 +11,8 @@ use lib.ListN.{length, take}
 use lib.Seq.{take-length}
 use Rattle.term.specs.declared.terms.Names.{Names}
 use Rattle.term.specs.Trees.{Tree, Forest, none, _▹_, words, Formed, Formed*, depth}
-use Rattle.term.specs.Parts.{parse, first, part}
-use Rattle.term.specs.Terms.{maxWords, maxDepth, firstDepth, partDepth, allDeclared, IsTerm, termWords, isTerm}
+use Rattle.term.specs.Parts.{parse, first, firstDepth, part, partDepth}
+use Rattle.term.specs.Terms.{maxWords, maxDepth, allDeclared, IsTerm, termWords, isTerm}
 use Rattle.term.proofs.Parsing.{accepted, some-words, parse-tree}
 use Rattle.term.proofs.Scan.{part-front}
 

@@ -8,12 +8,14 @@ use native.Mathlib.Omega.{arith}
 use borrow.Author.Tests.{leb-true}
 use lib.Dec.{leb}
 use lib.ListN.{length, take, drop, take-append-drop}
-use Rattle.term.specs.Parts.{Whole, first, part}
+use Rattle.term.specs.Trees.{Tree, Forest, none as no-tree, _▹_, words, Formed, Formed*, depth}
+use Rattle.term.specs.Parts.{Whole, parse, first, firstDepth, part, partDepth}
 use Rattle.term.specs.Terms.{isTerm}
-use Rattle.term.specs.Statements.{WordRead, LabelRead, TreeRead, RowRead, OneReading, WholePart, EmptyPart, EveryOffset, Replaces, TermTest}
+use Rattle.term.specs.Statements.{WordRead, LabelRead, TreeRead, RowRead, OneReading, WholePart, EmptyPart, DepthHanded, EveryOffset, Replaces, TermTest}
 use Rattle.term.proofs.Readings.{word-read, named-read, fixed-read, counted-read}
 use Rattle.term.proofs.Parsing.{some-words, parse-words, accepted, prefix-free}
 use Rattle.term.proofs.Scan.{part-front, part-none, part-whole, whole-part}
+use Rattle.term.proofs.Extents.{depth-missing}
 use Rattle.term.proofs.Places.{place, subtree-formed, part-there, words-replace}
 use Rattle.term.proofs.TermTest.{term-in, tree-term, term-tree}
 
@@ -40,6 +42,16 @@ whole-parts ws at p some = (
       (w, drop (length p) (drop at ws), sym (take-append-drop (length p) (drop at ws)) ∙ ap (λ (q : List ℕ). q ++ drop (length p) (drop at ws)) (sym f)),
   λ r. whole-part ws at p (r .1) (r .0) (r .2),
 )
+
+-- the first tree of a row is told by its words
+first-depth : (f : Forest) → Formed* f → (t : Tree) → Formed t → first f ≡ words t → firstDepth f ≡ depth t
+unfolding first firstDepth Formed
+first-depth no-tree k t g e = absurd (let l = ap length e in omega (arith, some-words t))
+first-depth (u ▹ f) k t g e = ap depth (one-reading u t (k .0) g e)
+
+pub depth-handed : DepthHanded
+unfolding part partDepth
+depth-handed = (λ ws at. first-depth (parse (drop at ws)) (accepted (drop at ws) .formed), λ ws at e. depth-missing ws at (ap length e))
 
 -- a whole part has words
 whole-some : {p : List ℕ} → Whole p → 0 < length p

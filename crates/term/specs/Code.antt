@@ -1,2 +1,3 @@
 -- How the code does it: nothing here is needed to read the promises.
+pub mod Deepest
 pub mod Lines

@@ -8,7 +8,7 @@ use lib.ListN.{drop}
 use Rattle.term.specs.declared.parts.Side.{Side}
 use Rattle.term.specs.declared.parts.Side.the-variants.{Left, Right}
 use Rattle.term.specs.Heads.{Label, scalar-zero, Reading, unread, labelled, read}
-use Rattle.term.specs.Trees.{Tree, Forest, node, none, _▹_, words, Formed}
+use Rattle.term.specs.Trees.{Tree, Forest, node, none, _▹_, words, Formed, depth}
 
 -- the first n trees of a row, and those behind them; `short` where there are fewer
 pub data Cut : Type 0 where
@@ -59,15 +59,25 @@ unfoldable pub part : List ℕ → ℕ → List ℕ
 unfolding first parse
 part ws at = first (parse (drop at ws))
 
+-- Its depth. 02, CR 4: "the depth of the part too, as defined in document 01, and 0 for the empty answer"
+unfoldable pub firstDepth : Forest → ℕ
+firstDepth none = 0
+firstDepth (t ▹ f) = depth t
+
+unfoldable pub partDepth : List ℕ → ℕ → ℕ
+unfolding firstDepth parse
+partDepth ws at = firstDepth (parse (drop at ws))
+
 -- where it begins; an empty part begins at 0
 unfoldable pub start : Forest → ℕ → ℕ
 start none at = 0
 start (t ▹ f) at = at
 
--- What a lookup hands back, for all that is lent: the part's words, and no copy of them but the place in the caller's own. A word is two bytes.
+-- What a lookup hands back, for all that is lent: the part's words, and no copy of them but the place in the caller's own; and its depth beside them. A word is two bytes.
 -- 01: "Start and end of the result are fixed by this"
-pub record Handed (ws : RefT (List ℕ)) (at : ℕ) (r : RefT (List ℕ)) : Type 0 where
+pub record Handed (ws : RefT (List ℕ)) (at : ℕ) (r : RefT (List ℕ)) (deep : ℕ) : Type 0 where
   pub same : now r ≡ part (now ws) at
+  pub depth : deep ≡ partDepth (now ws) at
   pub block : r .ptr .0 ≡ ws .ptr .0
   pub offset : r .ptr .1 ≡ ws .ptr .1 + start (parse (drop at (now ws))) at * 2
 

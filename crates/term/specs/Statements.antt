@@ -8,8 +8,8 @@ use lib.ListN.{length, take, drop, getD}
 use Rattle.term.specs.declared.heads.Class.{Class}
 use Rattle.term.specs.declared.terms.Names.{Names}
 use Rattle.term.specs.Heads.{Label, unknown, named, fixed, counted, heads, word, labelled, read}
-use Rattle.term.specs.Trees.{Tree, none, _▹_, words, words*, Formed, Formed*, found, subtree, replace}
-use Rattle.term.specs.Parts.{parse, Whole, part}
+use Rattle.term.specs.Trees.{Tree, none, _▹_, words, words*, Formed, Formed*, depth, found, subtree, replace}
+use Rattle.term.specs.Parts.{parse, Whole, part, partDepth}
 use Rattle.term.specs.Terms.{maxChildren, IsTerm, isTerm}
 
 -- ---- words and trees
@@ -44,6 +44,12 @@ WholePart = (ws : List ℕ) (at : ℕ) (p : List ℕ) → 0 < length p → (part
 -- 01: "an empty part when the offset is not below the length or no whole part begins there; this is their only empty answer"
 abbrev pub EmptyPart : Type 0
 EmptyPart = (ws : List ℕ) (at : ℕ) → (part ws at ≡ []) ↔ ((p rest : List ℕ) → Whole p → drop at ws ≡ p ++ rest → ⊥)
+
+-- 02, CR 4: "the depth of the part too, as defined in document 01, and 0 for the empty answer". What a lookup tells is the depth of the tree whose words it hands back, however deep
+abbrev pub DepthHanded : Type 0
+DepthHanded =
+    ((ws : List ℕ) (at : ℕ) (t : Tree) → Formed t → part ws at ≡ words t → partDepth ws at ≡ depth t)
+    × ((ws : List ℕ) (at : ℕ) → part ws at ≡ [] → partDepth ws at ≡ 0)
 
 -- 01: "Every offset inside a term begins a part"
 abbrev pub EveryOffset : Type 0

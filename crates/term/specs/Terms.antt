@@ -4,11 +4,11 @@ use mathlib.Core.Bool.{Bool, true, cond, _&&_}
 use mathlib.Core.List.{List, [], _∷_}
 use Prim.Native.Nat.{ℕ, suc, _+_, _-_, _/_, _%_, _≤_}
 use lib.Dec.{eqb, leb, ltb}
-use lib.ListN.{length, take, drop}
+use lib.ListN.{length, take}
 use Rattle.term.specs.declared.terms.Names.{Names}
 use Rattle.term.specs.Heads.{Reading, unread, labelled, read}
-use Rattle.term.specs.Trees.{Tree, Forest, none, _▹_, words, Formed, depth}
-use Rattle.term.specs.Parts.{parse, part}
+use Rattle.term.specs.Trees.{Tree, words, Formed, depth}
+use Rattle.term.specs.Parts.{part, partDepth}
 
 -- 01: "A term has at most 4,096 words and is at most 64 deep", "A type index has at most 63 words", "n is 1 to 255", "Names are 0 to 31"
 abbrev pub maxWords : ℕ
@@ -25,15 +25,6 @@ maxChildren = 255
 
 abbrev pub maxNames : ℕ
 maxNames = 32
-
--- the depth of the part that begins at an offset, 0 where none does
-unfoldable pub firstDepth : Forest → ℕ
-firstDepth none = 0
-firstDepth (t ▹ f) = depth t
-
-unfoldable pub partDepth : List ℕ → ℕ → ℕ
-unfolding firstDepth
-partDepth ws at = firstDepth (parse (drop at ws))
 
 -- How many heads stand above the place behind a run of words, and how many whole parts stand between it and the nearest of them. From right to left, as `parse`: a head that
 -- wants more parts than stand behind it has the place below it, any other is a whole part with those that it wants

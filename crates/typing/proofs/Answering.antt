@@ -11,8 +11,8 @@ use lib.Dec.{leb}
 use lib.ListN.{length, take, drop, replicate}
 use Rattle.words.specs.Words.{overlaid}
 use Rattle.term.specs.declared.terms.Names.{Names}
-use Rattle.term.specs.Parts.{parse, first, part, treeIn}
-use Rattle.term.specs.Terms.{maxWords, maxDepth, firstDepth, partDepth, IsTerm, isTerm}
+use Rattle.term.specs.Parts.{parse, treeIn, first, firstDepth, part, partDepth}
+use Rattle.term.specs.Terms.{maxWords, maxDepth, IsTerm, isTerm}
 use Rattle.term.specs.Trees.{Tree, none, _▹_, words, depth}
 use Rattle.term.proofs.Parsing.{parse-tree, some-words}
 use Rattle.term.proofs.TermTest.{term-tree}

@@ -10,8 +10,8 @@ use lib.ListN.{length, take}
 use lib.Seq.{length-take-le, take-length}
 use Rattle.words.specs.Words.{overlaid}
 use Rattle.term.specs.declared.terms.Names.{Names}
-use Rattle.term.specs.Parts.{parse, treeIn}
-use Rattle.term.specs.Terms.{maxWords, maxDepth, partDepth, allDeclared, termWords, isTerm}
+use Rattle.term.specs.Parts.{parse, treeIn, partDepth}
+use Rattle.term.specs.Terms.{maxWords, maxDepth, allDeclared, termWords, isTerm}
 use Rattle.term.specs.Trees.{depth}
 use Rattle.term.proofs.Scan.{part-length}
 use Rattle.term.proofs.TermTest.{term-in, term-end, term-names}

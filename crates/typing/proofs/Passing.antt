@@ -10,8 +10,7 @@ use lib.Seq.{drop-drop}
 use Rattle.term.specs.Heads.{Label, heads, labelled, reading, read, arityOf}
 use Rattle.term.specs.declared.heads.Arity.the-variants.{Unknown, Children}
 use Rattle.term.specs.Trees.{Tree, Forest, node, none, _▹_, count, _⧺_, words, words*, depth, depth*}
-use Rattle.term.specs.Parts.{parse, first, part, treeIn}
-use Rattle.term.specs.Terms.{firstDepth, partDepth}
+use Rattle.term.specs.Parts.{parse, treeIn, first, firstDepth, part, partDepth}
 use Rattle.term.proofs.Parsing.{⧺-assoc, count-⧺, words*-⧺, some-words, Grown, unread-word, words-short, planted, grown, parse-node}
 use Rattle.term.proofs.Extents.{depth*-⧺, parse-behind}
 use Rattle.term.proofs.Scan.{read-children, read-unknown}

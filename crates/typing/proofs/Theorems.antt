@@ -7,8 +7,8 @@ use native.Mathlib.Omega.{arith}
 use borrow.Author.Tests.{eqb-true, eqb-false}
 use lib.Dec.{eqb}
 use lib.ListN.{length, take}
-use Rattle.term.specs.Parts.{parse, treeIn}
-use Rattle.term.specs.Terms.{maxWords, partDepth, firstDepth, IsTerm, isTerm}
+use Rattle.term.specs.Parts.{parse, treeIn, firstDepth, partDepth}
+use Rattle.term.specs.Terms.{maxWords, IsTerm, isTerm}
 use Rattle.term.specs.Trees.{Tree, none, _▹_, words, depth}
 use Rattle.term.proofs.Parsing.{parse-tree}
 use Rattle.term.proofs.Theorems.{term-test}

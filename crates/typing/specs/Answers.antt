@@ -7,8 +7,8 @@ use mathlib.Core.List.{List, [], _++_}
 use Prim.Native.Nat.{ℕ, _≤_}
 use lib.Dec.{eqb}
 use lib.ListN.{length, take, replicate}
-use Rattle.term.specs.Parts.{parse, treeIn}
-use Rattle.term.specs.Terms.{maxWords, partDepth, IsTerm, isTerm}
+use Rattle.term.specs.Parts.{parse, treeIn, partDepth}
+use Rattle.term.specs.Terms.{maxWords, IsTerm, isTerm}
 use Rattle.term.specs.Trees.{Tree, words, depth}
 use Rattle.typing.specs.declared.terms.Kind as K
 use Rattle.typing.specs.declared.terms.Kind.the-variants as Kinds

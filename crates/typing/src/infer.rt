@@ -9,7 +9,7 @@ use crate::sorts::Sorted;
 use term::heads::Arity;
 use term::heads::Class;
 use term::heads::arity_of;
-use term::terms::larger;
+use term::parts::larger;
 use words::word_at;
 ghost use mathlib.Core.Path.{_≡_};
 ghost use mathlib.Core.Bool.{true};

@@ -14,33 +14,30 @@ use Rattle.families.proofs.family_at.Statement.{statement}
 use Rattle.families.proofs.family_at.Tie as tie
 
 -- the part's own words are whole
-whole : (c : tie.Else2) → Whole (take (c .before .before .before .before .before .before .args .end) (c .before .before .before .before .before .before .args .ws .now))
-whole c = own-whole _ _ (c .before .before .before .before .before .before .pre) (c .before .before .before .if1 .left)
+whole : (c : tie.Else2) → Whole (take (c .before .before .before .before .before .args .end) (c .before .before .before .before .before .args .ws .now))
+whole c = own-whole _ _ (c .before .before .before .before .before .pre .0) (c .before .before .if1 .left)
 
 -- and the rule is a family's
-rule : (c : tie.Else2) → Ruled (c .before .before .row-of .result) (c .before .before .before .before .before .before .args .rule)
-rule c = ruled _ _ (c .before .before .row-of .ensures) (λ z. omega (arith, z, c .if2 .left))
+rule : (c : tie.Else2) → Ruled (c .before .before .before .before .before .args .row) (c .before .before .before .before .before .args .rule)
+rule c = ruled _ _ (c .before .before .before .before .before .pre .1) (λ z. omega (arith, z, c .if2 .left))
 
-other : (c : tie.Else2) → c .before .before .row-of .result .family ≢ 1
+other : (c : tie.Else2) → c .before .before .before .before .before .args .row .family ≢ 1
 other c = λ z. omega (arith, z, c .if2 .left)
 
 refused-requires : tie.Need-refused-requires
 refused-requires c κs = search needs
 
 returns : tie.Need-returns
-returns c = λ Γ. refuses _ _ _ _ (no-part _ _ (c .before .before .before .before .pre) Γ _ _ _ (c .before .if1 .taken)) (c .refused .ensures) refl
-
-row-of-requires : tie.Need-row-of-requires
-row-of-requires c κs = search needs
+returns c = λ Γ. refuses _ _ _ _ (no-part _ _ (c .before .before .before .before .pre .0) Γ _ _ _ (c .before .if1 .taken)) (c .refused .ensures) refl
 
 refused-requires-2 : tie.Need-refused-requires-2
 refused-requires-2 c κs = search needs
 
 returns-2 : tie.Need-returns-2
-returns-2 c = λ Γ. refuses _ _ _ _ (other-family Γ _ _ _ _ _ (c .before .before .before .row-of .ensures) (c .before .if2 .taken)) (c .refused2 .ensures) refl
+returns-2 c = λ Γ. refuses _ _ _ _ (other-family Γ _ _ _ _ _ (c .before .before .before .before .before .before .pre .1) (c .before .if2 .taken)) (c .refused2 .ensures) refl
 
 slice-aggregate-part : tie.Need-slice-aggregate-part
-slice-aggregate-part c = sym (length-take-le _ _ (own-size _ _ (c .before .before .before .before .before .before .before .pre)))
+slice-aggregate-part c = sym (length-take-le _ _ (own-size _ _ (c .before .before .before .before .before .before .pre .0)))
 
 collect-requires : tie.Need-collect-requires
 collect-requires c κs = whole (c .before .before .before .before)
@@ -50,27 +47,33 @@ same-length c = search needs
 
 returns-3 : tie.Need-returns-3
 returns-3 c = λ Γ.
-    let k = rule (c .before .before .before .before .before .before .before) in
-    does-own _ (k .is) (k .lines) (other (c .before .before .before .before .before .before .before)) _ (c .before .before .before .before .before .before .before .before .before .before .before .before .before .args .end) (whole (c .before .before .before .before .before .before .before)) Γ _ _ _ _ _ _ _ refl (collects _ _ _ _ _ _ _ (k .lines) (c .before .before .before .before .if3 .taken) (c .before .before .collect .ensures))
+    let at = c .before .before .before .before .before .before .before in
+    let k = rule at in
+    does-own _ (k .is) (k .lines) (other at) _ (at .before .before .before .before .before .args .end) (whole at) Γ _ _ _ _ _ _ _ refl (collects _ _ _ _ _ _ _ (k .lines) (c .before .before .before .before .if3 .taken) (c .before .before .collect .ensures))
 
 refused-requires-3 : tie.Need-refused-requires-3
 refused-requires-3 c κs = search needs
 
 returns-4 : tie.Need-returns-4
 returns-4 c = λ Γ.
-    let k = rule (c .before .before .before .before .before) in
-    refuses _ _ _ _ (no-second _ (k .is) (k .lines) (other (c .before .before .before .before .before)) _ (c .before .before .before .before .before .before .before .before .before .before .before .args .end) (whole (c .before .before .before .before .before)) Γ _ _ (c .before .before .if3 .left) (c .before .if4 .taken)) (c .refused3 .ensures) refl
+    let at = c .before .before .before .before .before in
+    let k = rule at in
+    refuses _ _ _ _ (no-second _ (k .is) (k .lines) (other at) _ (at .before .before .before .before .before .args .end) (whole at) Γ _ _ (c .before .before .if3 .left) (c .before .if4 .taken)) (c .refused3 .ensures) refl
 
 apply-family-requires : tie.Need-apply-family-requires
-apply-family-requires c κs = let k = rule (c .before .before .before .before .before) in (whole (c .before .before .before .before .before), (k .rule, k .lines), other (c .before .before .before .before .before), c .before .before .if3 .left)
+apply-family-requires c κs =
+    let at = c .before .before .before .before .before in
+    let k = rule at in
+    (whole at, (k .rule, k .lines), other at, c .before .before .if3 .left)
 
 same-length-2 : tie.Need-same-length-2
 same-length-2 c = search needs
 
 returns-5 : tie.Need-returns-5
 returns-5 c = λ Γ.
-    let k = rule (c .before .before .before .before .before .before .before .before) in
-    does-own _ (k .is) (k .lines) (other (c .before .before .before .before .before .before .before .before)) _ (c .before .before .before .before .before .before .before .before .before .before .before .before .before .before .args .end) (whole (c .before .before .before .before .before .before .before .before)) Γ _ _ _ _ _ _ _ (c .before .before .before .before .if4 .left) (c .before .before .apply-family .ensures (k .rule) (k .lines))
+    let at = c .before .before .before .before .before .before .before .before in
+    let k = rule at in
+    does-own _ (k .is) (k .lines) (other at) _ (at .before .before .before .before .before .args .end) (whole at) Γ _ _ _ _ _ _ _ (c .before .before .before .before .if4 .left) (c .before .before .apply-family .ensures (k .rule) (k .lines))
 
 pub family-at-spec : {M : Type 1} → statement M
 family-at-spec =
@@ -78,7 +81,6 @@ family-at-spec =
     (tie.spec
     refused-requires
     returns
-    row-of-requires
     refused-requires-2
     returns-2
     slice-aggregate-part

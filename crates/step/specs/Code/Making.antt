@@ -1,11 +1,12 @@
 -- A result made apart, and what it is made of.
 use mathlib.Core.Path.{_≡_}
 use mathlib.Core.Logic.{_≢_}
-use mathlib.Core.Bool.{true}
+use mathlib.Core.Bool.{Bool, true, false}
 use mathlib.Core.List.{List, _++_}
 use Prim.Native.Nat.{ℕ, _+_, _≤_, min}
 use lib.ListN.{length, take}
 use Rattle.term.specs.Trees.{Tree, words, Formed, depth, found, subtree}
+use Rattle.term.specs.Parts.{partDepth}
 use Rattle.term.specs.Terms.{maxWords, maxDepth}
 use Rattle.types.specs.Sorts.{Sort}
 use Rattle.types.specs.Rules.{Typed}
@@ -21,17 +22,19 @@ pub record Termed (ds term : List ℕ) : Type 0 where
   pub typed : Typed (contextIn ds) sort tree
   pub is : words tree ≡ term
 
--- a place of a term at which a part begins
-pub record Seated (term : List ℕ) (place : ℕ) : Type 0 where
+-- a place of a term at which a part begins, and the words of one that comes there: where it may be deeper, it is known how deep the part is
+pub record Seated (term : List ℕ) (place : ℕ) (deepens : Bool) (old : ℕ) (new : List ℕ) : Type 0 where
   pub tree : Tree
   pub is : words tree ≡ term
   pub formed : Formed tree
   pub shallow : depth tree ≤ maxDepth
   pub part : Tree
   pub there : subtree tree place ≡ found part
+  pub was : deepens ≡ true → old ≡ depth part
+  pub flat : deepens ≡ false → partDepth new 0 ≤ depth part
 
 -- a part of it that gives way to a result, whose words stand in the scratch slice as far as they fit
-pub record Fresh (term : List ℕ) (place end : ℕ) (out : List ℕ) (new : ℕ) : Type 0 where
+pub record Fresh (term : List ℕ) (place end : ℕ) (deepens : Bool) (old : ℕ) (out : List ℕ) (new : ℕ) : Type 0 where
   pub tree : Tree
   pub is : words tree ≡ term
   pub short : length term ≤ maxWords
@@ -40,8 +43,10 @@ pub record Fresh (term : List ℕ) (place end : ℕ) (out : List ℕ) (new : ℕ
   pub part : Tree
   pub there : subtree tree place ≡ found part
   pub ends : end ≡ place + length (words part)
+  pub was : deepens ≡ true → old ≡ depth part
   pub result : Tree
   pub result-formed : Formed result
+  pub flat : deepens ≡ false → depth result ≤ depth part
   pub size : length out ≡ maxWords
   pub new-end : new ≡ min (length (words result)) (maxWords + 1)
   pub written : length (words result) ≤ maxWords → take new out ≡ words result

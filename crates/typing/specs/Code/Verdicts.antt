@@ -7,8 +7,8 @@ use Prim.Native.Nat.{ℕ, _+_, _*_, _/_, _%_, _≤_, _<_, min}
 use lib.Dec.{eqb, ltb}
 use lib.ListN.{length, getD}
 use Rattle.term.specs.declared.heads.Class.the-variants.{Index, Basis, Scalar, Ket, Bra, Operator}
-use Rattle.term.specs.Parts.{parse, part, treeIn}
-use Rattle.term.specs.Terms.{partDepth, termWords}
+use Rattle.term.specs.Parts.{parse, treeIn, part, partDepth}
+use Rattle.term.specs.Terms.{termWords}
 use Rattle.typing.specs.declared.sorts.Sorted as S
 use Rattle.typing.specs.declared.sorts.Outcome as C
 use Rattle.typing.specs.declared.lookup.Entry as E

@@ -1,7 +1,7 @@
 -- The limits are those of the whole result, found from the new part and its place.
 use mathlib.Core.Path.{_≡_, refl, sym, _∙_, ap}
 use mathlib.Core.Bool.{true, false}
-use Prim.Native.Nat.{_+_, _≤_, _<_, min}
+use Prim.Native.Nat.{_+_, _≤_, _<_}
 use native.Mathlib.Omega.{arith}
 use borrow.Author.Needs.{needs}
 use borrow.Author.Tests.{ltb-true, ltb-false}
@@ -19,13 +19,13 @@ use Rattle.step.proofs.stepping.finish.Tie as tie
 -- whether the place takes the result
 found : (c : tie.After-is-too-deep)
     → let args = c .before .before .before .before .before .args in
-    (f : Fresh (args .term .now) (args .place) (args .end) (args .out .now) (args .new))
+    (f : Fresh (args .term .now) (args .place) (args .end) (args .deepens) (args .old) (args .out .now) (args .new))
     → (length (words (f .result)) ≤ 4096)
     × (c .is-too-deep .result ≡ true → 64 < level (f .tree) (args .place) + depth (f .result))
     × (c .is-too-deep .result ≡ false → level (f .tree) (args .place) + depth (f .result) ≤ 64)
 found c = λ f.
     let short : length (words (f .result)) ≤ 4096 = omega (arith, f .new-end) in
-    let n = level (f .tree) (c .before .before .before .before .before .args .place) + min 65 (depth (f .result)) in
+    let n = level (f .tree) (c .before .before .before .before .before .args .place) + depth (f .result) in
     let told : c .is-too-deep .result ≡ ltb 64 n = c .is-too-deep .ensures ∙ rw (place-level f, result-depth f short) in
     (short, λ e. omega (arith, ltb-true 64 n (sym told ∙ e)), λ e. omega (arith, ltb-false 64 n (sym told ∙ e)))
 
@@ -53,7 +53,7 @@ is-too-deep-requires : tie.Need-is-too-deep-requires
 is-too-deep-requires c κs =
     let start = c .before .before .before .before in
     let f = start .pre in
-    (seated f, omega (arith, end-inside f, f .short), omega (arith, length-take (start .args .new) (start .args .out .now), f .size))
+    (seated f (omega (arith, f .new-end, c .before .if1 .left)), omega (arith, end-inside f, f .short), omega (arith, length-take (start .args .new) (start .args .out .now), f .size))
 
 refused-requires-2 : tie.Need-refused-requires-2
 refused-requires-2 c κs = search needs

@@ -1,61 +1,78 @@
--- The words, then the place, then the part that is there, then the level tell.
+-- The rule, then the words, then the place, then the part that is there, then the level tell.
 use mathlib.Core.Path.{sym}
-use Prim.Native.Nat.{_+_, min}
+use Prim.Native.Nat.{_+_}
 use native.Mathlib.Omega.{arith}
-use borrow.Author.Tests.{le-ltb}
-use Rattle.term.specs.Terms.{partDepth, levelAt}
-use Rattle.step.proofs.Limits.{part-shallow, seat-below, seat-fits}
+use borrow.Author.Tests.{le-ltb, not-true, not-false}
+use Rattle.term.specs.Parts.{partDepth}
+use Rattle.term.specs.Terms.{levelAt}
+use Rattle.step.proofs.Limits.{part-shallow, seat-below, seat-fits, seat-flat}
 use borrow.Author.Needs.{needs}
 use Rattle.step.proofs.stepping.is_too_deep.Statement.{statement}
 use Rattle.step.proofs.stepping.is_too_deep.Tie as tie
 
-add-if1 : tie.Need-add-if1
-add-if1 c = search needs
-
 returns : tie.Need-returns
 returns c =
-    let args = c .before .before .before .args in
-    sym (le-ltb 64 (levelAt (args .term .now) (args .place) + min 65 (partDepth (args .part .now) 0)) (omega (arith, seat-below (c .before .before .before .pre .0), part-shallow (args .part .now))))
-
-depth-at-requires : tie.Need-depth-at-requires
-depth-at-requires c κs = search needs
+    let start = c .before .before .before in
+    let args = start .args in
+    sym (le-ltb 64 (levelAt (args .term .now) (args .place) + partDepth (args .part .now) 0) (seat-flat (start .pre .0) (not-true _ (c .if1 .taken))))
 
 add-if2 : tie.Need-add-if2
 add-if2 c = search needs
 
 returns-2 : tie.Need-returns-2
 returns-2 c =
-    let args = c .before .before .before .before .before .args in
-    sym (le-ltb 64 (levelAt (args .term .now) (args .place) + min 65 (partDepth (args .part .now) 0)) (omega (arith, seat-below (c .before .before .before .before .before .pre .0), c .before .depth-at .ensures)))
-
-depth-at-requires-2 : tie.Need-depth-at-requires-2
-depth-at-requires-2 c κs = search needs
+    let start = c .before .before .before .before in
+    let args = start .args in
+    sym (le-ltb 64 (levelAt (args .term .now) (args .place) + partDepth (args .part .now) 0) (omega (arith, seat-below (start .pre .0), part-shallow (args .part .now))))
 
 returns-3 : tie.Need-returns-3
 returns-3 c =
-    let args = c .before .before .before .before .before .before .before .args in
-    sym (le-ltb 64 (levelAt (args .term .now) (args .place) + min 65 (partDepth (args .part .now) 0)) (omega (arith, seat-fits (c .before .before .before .before .before .before .before .pre .0), c .before .before .before .depth-at .ensures, c .before .depth-at2 .ensures, c .if3 .taken)))
+    let start = c .before .before .before .before .before in
+    let args = start .args in
+    sym (le-ltb 64 (levelAt (args .term .now) (args .place) + partDepth (args .part .now) 0) (omega (arith, seat-fits (start .pre .0) (not-false _ (c .before .before .if1 .left)), part-shallow (args .part .now))))
+
+part-at-requires : tie.Need-part-at-requires
+part-at-requires c κs = search needs
+
+add-if4 : tie.Need-add-if4
+add-if4 c = let start = c .before .before .before .before .before .before .before in omega (arith, c .part-at .ensures .depth, part-shallow (start .args .part .now), start .pre)
+
+returns-4 : tie.Need-returns-4
+returns-4 c =
+    let start = c .before .before .before .before .before .before .before .before in
+    let args = start .args in
+    sym (le-ltb 64 (levelAt (args .term .now) (args .place) + partDepth (args .part .now) 0) (omega (arith, seat-below (start .pre .0), c .before .part-at .ensures .depth)))
+
+returns-5 : tie.Need-returns-5
+returns-5 c =
+    let start = c .before .before .before .before .before .before .before .before .before in
+    let args = start .args in
+    sym (le-ltb 64 (levelAt (args .term .now) (args .place) + partDepth (args .part .now) 0) (omega (arith, seat-fits (start .pre .0) (not-false _ (c .before .before .before .before .before .before .if1 .left)), c .before .before .part-at .ensures .depth, c .if5 .taken)))
 
 level-at-requires : tie.Need-level-at-requires
 level-at-requires c κs = search needs
 
 add-result : tie.Need-add-result
-add-result c = omega (arith, seat-below (c .before .before .before .before .before .before .before .before .pre .0), c .level-at .ensures, c .before .before .before .before .before .before .before .before .pre, c .before .before .before .before .depth-at .ensures)
+add-result c =
+    let start = c .before .before .before .before .before .before .before .before .before .before in
+    let args = start .args in
+    omega (arith, seat-below (start .pre .0), c .level-at .ensures, start .pre, c .before .before .before .part-at .ensures .depth, part-shallow (args .part .now))
 
-returns-4 : tie.Need-returns-4
-returns-4 c = rw (c .level-at .ensures, c .before .before .before .before .depth-at .ensures)
+returns-6 : tie.Need-returns-6
+returns-6 c = rw (c .level-at .ensures, c .before .before .before .part-at .ensures .depth)
 
 pub is-too-deep-spec : {M : Type 1} → statement M
 is-too-deep-spec =
     tie.close
     (tie.spec
-    add-if1
     returns
-    depth-at-requires
     add-if2
     returns-2
-    depth-at-requires-2
     returns-3
+    part-at-requires
+    add-if4
+    returns-4
+    returns-5
     level-at-requires
     add-result
-    returns-4)
+    returns-6)

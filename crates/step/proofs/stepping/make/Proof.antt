@@ -53,17 +53,31 @@ same-length c = search needs
 returns-3 : tie.Need-returns-3
 returns-3 c =
     λ x.
-    let k = ruled _ _ (c .before .before .before .before .before .before .before .before .before .before .before .before .before .row-of .ensures) (c .before .before .before .before .before .before .before .before .before .before .before .if1 .left) in
-    made-22 x _ k (c .before .before .before .before .before .before .before .before .before .if2 .left) _ (c .before .before .before .before .before .before .before .before .before .before .before .before .before .before .before .before .before .before .pre .1) _ _ (c .before .before .before .before .rewrite-part .ensures .0) (c .if3 .taken)
+    let call = c .before .before .before .before in
+    let place = call .before .before .before .before .before in
+    let row = place .before .before .before .before in
+    let start = row .before .before .before .before .before in
+    let k = ruled _ _ (row .row-of .ensures) (place .before .before .if1 .left) in
+    made-22 x _ k (place .if2 .left) _ (start .pre .1) _ _ (call .rewrite-part .ensures .0) (c .if3 .taken)
 
 add-finish : tie.Need-add-finish
-add-finish c = let r = site-room (c .before .before .before .before .before .before .before .before .before .before .before .before .before .before .before .before .before .before .before .pre .0) _ (c .before .before .before .before .before .before .before .before .before .before .if2 .left) _ (c .before .before .before .before .before .rewrite-part .ensures .1) in search needs
+add-finish c =
+    let call = c .before .before .before .before .before in
+    let place = call .before .before .before .before .before in
+    let row = place .before .before .before .before in
+    let start = row .before .before .before .before .before in
+    let r = site-room (start .pre .0) _ (place .if2 .left) _ (call .rewrite-part .ensures .1 (c .before .if3 .left) .size) in
+    search needs
 
 finish-requires : tie.Need-finish-requires
 finish-requires c κs =
-    let k = ruled _ _ (c .before .before .before .before .before .before .before .before .before .before .before .before .before .before .before .row-of .ensures) (c .before .before .before .before .before .before .before .before .before .before .before .before .before .if1 .left) in
-    let made = c .before .before .before .before .before .before .rewrite-part .ensures in
-    fine (c .before .before .before .before .before .before .before .before .before .before .before .before .before .before .before .before .before .before .before .before .pre .0) _ k (c .before .before .before .before .before .before .before .before .before .before .before .if2 .left) _ (c .before .before .before .before .before .before .before .before .before .before .before .before .before .before .before .before .before .before .before .before .pre .1) _ _ (made .0) _ (made .1) (c .before .before .if3 .left) .fresh
+    let good = c .before .before .if3 .left in
+    let call = c .before .before .before .before .before .before in
+    let place = call .before .before .before .before .before in
+    let row = place .before .before .before .before in
+    let start = row .before .before .before .before .before in
+    let k = ruled _ _ (row .row-of .ensures) (place .before .before .if1 .left) in
+    fine (start .pre .0) _ k (place .if2 .left) _ (start .pre .1) _ _ (call .rewrite-part .ensures .0) (call .rewrite-part .ensures .1 good) good .fresh
 
 same-length-2 : tie.Need-same-length-2
 same-length-2 c = search needs
@@ -71,10 +85,15 @@ same-length-2 c = search needs
 returns-4 : tie.Need-returns-4
 returns-4 c =
     λ x.
-    let k = ruled _ _ (c .before .before .before .before .before .before .before .before .before .before .before .before .before .before .before .before .before .before .row-of .ensures) (c .before .before .before .before .before .before .before .before .before .before .before .before .before .before .before .before .if1 .left) in
-    let made = c .before .before .before .before .before .before .before .before .before .rewrite-part .ensures in
-    let f = fine x _ k (c .before .before .before .before .before .before .before .before .before .before .before .before .before .before .if2 .left) _ (c .before .before .before .before .before .before .before .before .before .before .before .before .before .before .before .before .before .before .before .before .before .before .before .pre .1) _ _ (made .0) _ (made .1) (c .before .before .before .before .before .if3 .left) in
-    finished x _ k (c .before .before .before .before .before .before .before .before .before .before .before .before .before .before .if2 .left) _ (c .before .before .before .before .before .before .before .before .before .before .before .before .before .before .before .before .before .before .before .before .before .before .before .pre .1) _ _ (made .0) _ (made .1) f (c .before .before .finish .ensures (f .fresh))
+    let good = c .before .before .before .before .before .if3 .left in
+    let call = c .before .before .before .before .before .before .before .before .before in
+    let place = call .before .before .before .before .before in
+    let row = place .before .before .before .before in
+    let start = row .before .before .before .before .before in
+    let k = ruled _ _ (row .row-of .ensures) (place .before .before .if1 .left) in
+    let made = call .rewrite-part .ensures in
+    let f = fine x _ k (place .if2 .left) _ (start .pre .1) _ _ (made .0) (made .1 good) good in
+    finished x _ k (place .if2 .left) _ (start .pre .1) _ _ (made .0) (made .1 good) f (c .before .before .finish .ensures (f .fresh))
 
 pub make-spec : {M : Type 1} → statement M
 make-spec =

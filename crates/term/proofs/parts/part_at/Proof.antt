@@ -1,4 +1,4 @@
--- The part lies between the offset and the end that `part_end` gives, inside the slice.
+-- The part lies between the offset and its end, inside the slice.
 use mathlib.Core.Path.{_≡_, refl, sym}
 use Prim.Native.Nat.{_-_}
 use native.Mathlib.Omega.{arith}
@@ -9,8 +9,8 @@ use Rattle.term.proofs.Scan.{part-front, part-length, part-start, part-
 use Rattle.term.proofs.parts.part_at.Statement.{statement}
 use Rattle.term.proofs.parts.part_at.Tie as tie
 
-part-end-requires : tie.Need-part-end-requires
-part-end-requires c κs = search needs
+extent-at-requires : tie.Need-extent-at-requires
+extent-at-requires c κs = search needs
 
 mul-result : tie.Need-mul-result
 mul-result c = omega (arith, part-length (c .before .before .before .args .ws .now) (c .before .before .before .args .at))
@@ -26,10 +26,10 @@ part-result-end c = omega (arith, part-length (c .before .before .before .args .
 
 returns : tie.Need-returns
 returns c =
-    let at = c .before .before .before .before .args .at in
-    let ws = c .before .before .before .before .args .ws .now in
-    let n : c .before .before .part-end .result - at ≡ length (part ws at) = omega arith in
-    record { same = rw n (sym (part-front ws at)); block = refl; offset = rw (part-start ws at (omega arith)) (search needs) }
+    let args = c .before .before .before .before .args in
+    let found = c .before .before .extent-at in
+    let n : found .result .end - args .at ≡ length (part (args .ws .now) (args .at)) = omega arith in
+    record { same = rw n (sym (part-front (args .ws .now) (args .at))); depth = found .ensures .1; block = refl; offset = rw (part-start (args .ws .now) (args .at) (omega arith)) (search needs) }
 
 sub-result-2 : tie.Need-sub-result-2
 sub-result-2 c = search needs
@@ -42,16 +42,15 @@ part-result-end-2 c = search needs
 
 returns-2 : tie.Need-returns-2
 returns-2 c =
-    let at = c .before .before .before .before .args .at in
-    let ws = c .before .before .before .before .args .ws .now in
-    let e = part-none ws at (omega arith) in
-    record { same = sym (e .1); block = refl; offset = rw (e .0) (search needs) }
+    let args = c .before .before .before .before .args in
+    let e = part-none (args .ws .now) (args .at) (omega arith) in
+    record { same = sym (e .1); depth = c .before .before .extent-at .ensures .1; block = refl; offset = rw (e .0) (search needs) }
 
 pub part-at-spec : {M : Type 1} → statement M
 part-at-spec =
     tie.close
     (tie.spec
-    part-end-requires
+    extent-at-requires
     mul-result
     sub-result
     part-result-start

@@ -18,11 +18,11 @@ part-at-requires-2 c κs = search needs
 
 returns : tie.Need-returns
 unfolding side
-returns c = rw (c .before .enum-told .given .1) (c .part-at .ensures)
+returns c = rw (c .before .before .enum-told .given .1) (c .part-at .ensures)
 
 returns-2 : tie.Need-returns-2
 unfolding side
-returns-2 c = rw (c .before .enum-told2 .given .1) (c .part-at2 .ensures)
+returns-2 c = rw (c .before .before .enum-told2 .given .1) (c .part-at2 .ensures)
 
 pub part-of-side-spec : {M : Type 1} → statement M
 part-of-side-spec =

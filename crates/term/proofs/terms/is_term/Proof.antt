@@ -1,7 +1,8 @@
 -- Each answer is the first condition of the definition that fails, or the last one.
-use mathlib.Core.Path.{sym, _∙_}
+use mathlib.Core.Path.{sym, _∙_, ap}
 use native.Mathlib.Omega.{arith}
 use borrow.Author.Needs.{needs}
+use lib.ListN.{length}
 use lib.Seq.{length-take-le}
 use Rattle.term.proofs.TermTest.{term-in, term-past, term-empty, term-long, term-end, term-deep, term-names}
 use Rattle.term.proofs.terms.is_term.Statement.{statement}
@@ -25,22 +26,22 @@ returns-3 c =
 slice-aggregate-term : tie.Need-slice-aggregate-term
 slice-aggregate-term c = sym (length-take-le _ _ (omega arith))
 
-part-end-requires : tie.Need-part-end-requires
-part-end-requires c κs = search needs
+part-at-requires : tie.Need-part-at-requires
+part-at-requires c κs = search needs
 
 returns-4 : tie.Need-returns-4
 returns-4 c =
-    let args = c .before .before .before .before .before .before .before .args in
+    let args = c .before .before .before .before .before .before .before .before .args in
     let l = length-take-le (args .n) (args .ws .now) (omega arith) in
+    let whole = ap length (c .before .part-at .ensures .same) in
     sym (term-in _ _ _ (omega arith) ∙ term-end _ _ (omega arith) (omega arith) (λ e. c .if4 .taken (omega arith)))
-
-depth-at-requires : tie.Need-depth-at-requires
-depth-at-requires c κs = search needs
 
 returns-5 : tie.Need-returns-5
 returns-5 c =
     let args = c .before .before .before .before .before .before .before .before .before .args in
     let l = length-take-le (args .n) (args .ws .now) (omega arith) in
+    let whole = ap length (c .before .before .part-at .ensures .same) in
+    let depth = c .before .before .part-at .ensures .depth in
     sym (term-in _ _ _ (omega arith) ∙ term-deep _ _ (omega arith) (omega arith) (omega arith) (omega arith))
 
 all-declared-requires : tie.Need-all-declared-requires
@@ -50,6 +51,8 @@ returns-6 : tie.Need-returns-6
 returns-6 c =
     let args = c .before .before .before .before .before .before .before .before .before .before .args in
     let l = length-take-le (args .n) (args .ws .now) (omega arith) in
+    let whole = ap length (c .before .before .before .part-at .ensures .same) in
+    let depth = c .before .before .before .part-at .ensures .depth in
     c .all-declared .ensures ∙ sym (term-in _ _ _ (omega arith) ∙ term-names _ _ (omega arith) (omega arith) (omega arith) (omega arith))
 
 pub is-term-spec : {M : Type 1} → statement M
@@ -60,9 +63,8 @@ is-term-spec =
     returns-2
     returns-3
     slice-aggregate-term
-    part-end-requires
+    part-at-requires
     returns-4
-    depth-at-requires
     returns-5
     all-declared-requires
     returns-6)

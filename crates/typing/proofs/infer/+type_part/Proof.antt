@@ -18,7 +18,7 @@ use Rattle.typing.proofs.infer.type_part.Kinds as type-part-kinds
 use Rattle.typing.proofs.infer.+type_part.Lts-type_part as type-part-lts
 use Rattle.words.proofs.word_at.Reads as word-at-reads
 use Rattle.term.proofs.heads.arity_of.Reads as arity-of-reads
-use Rattle.term.proofs.terms.larger.Reads as larger-reads
+use Rattle.term.proofs.parts.larger.Reads as larger-reads
 use Rattle.typing.proofs.gathering.gather.Reads as gather-reads
 use Rattle.typing.proofs.gathering.none_yet.Reads as none-yet-reads
 use Rattle.typing.proofs.infer.conclude_leaf.Reads as conclude-leaf-reads

@@ -5,8 +5,8 @@ use lib.ListN.{length-take}
 use native.Mathlib.Omega.{arith}
 use borrow.Author.Needs.{needs}
 use Rattle.term.proofs.Levels.{Back, back-begin, back-end, back-below, back-whole, back-unknown}
-use Rattle.term.proofs.terms.level_at.Statement.{statement}
-use Rattle.term.proofs.terms.level_at.Tie as tie
+use Rattle.term.proofs.parts.level_at.Statement.{statement}
+use Rattle.term.proofs.parts.level_at.Tie as tie
 
 abbrev Inv-loop : tie.InvT-loop
 Inv-loop ws at i₀ level₀ parts₀ i level parts = Back ws at i level parts
