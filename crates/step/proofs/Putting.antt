@@ -1,51 +1,45 @@
--- A result put into its slice, with zeros behind.
+-- A result put into its slice: zeros behind its end, and then its words.
 use mathlib.Core.Path.{_≡_, sym, _∙_, ap}
 use mathlib.Core.List.{List, _++_, append-assoc}
-use Prim.Native.Nat.{ℕ, _+_, _-_, _≤_, min}
+use Prim.Native.Nat.{ℕ, _+_, _-_, _≤_}
 use native.Mathlib.Decide.{decLe}
 use native.Mathlib.Omega.{arith}
-use lib.ListN.{length, take, drop, replicate, length-append, length-take, length-drop, take-append-drop, replicate-append-replicate}
-use lib.Seq.{take-at, take-take, length-take-le, drop-drop, drop-append-add}
+use lib.ListN.{length, take, drop, replicate, length-append, length-take, length-replicate, take-append-drop, replicate-append-replicate}
+use lib.Seq.{take-at, drop-at, take-take, length-take-le, take-append-le}
 use Rattle.words.specs.Words.{cleared, laid}
 use Rattle.words.proofs.Runs.{laid-in, cleared-end, zeros-from}
+use Rattle.step.specs.Answers.{between}
 
--- ---- a run laid into a slice that has zeros behind its first `old` words, which are then cleared behind the run
-module _ (ws : List ℕ) (at : ℕ) (src : List ℕ) (old : ℕ) (room : at + length src ≤ length ws) (inside : old ≤ length ws) (zeros : cleared ws old ≡ ws) where
-  abbrev n : ℕ
-  n = at + length src
-
-  abbrev new : List ℕ
-  new = take at ws ++ src
-
-  new-length : length new ≡ n
-  new-length = length-append (take at ws) src ∙ omega (arith, length-take at ws)
-
-  mid-length : length (new ++ drop n ws) ≡ length ws
-  mid-length = length-append new (drop n ws) ∙ omega (arith, length-drop n ws, new-length)
-
-  -- it ends before the old one did
-  shorter : n ≤ old → cleared (take old (new ++ drop n ws)) n ++ drop old (new ++ drop n ws) ≡ new ++ replicate (length ws - n) 0
+-- ---- a slice that has zeros behind its first `old` words, cleared as far as they go
+module _ (ws : List ℕ) (old : ℕ) (inside : old ≤ length ws) (zeros : cleared ws old ≡ ws) (end : ℕ) where
+  -- the new end is before the old one
+  shorter : end ≤ old → cleared (take old ws) end ++ drop old ws ≡ between ws end
   unfolding cleared
   shorter h =
-      let t : take n (take old (new ++ drop n ws)) ≡ new = take-take n old (new ++ drop n ws) h ∙ take-at new (drop n ws) n new-length in
-      let l : length (take old (new ++ drop n ws)) ≡ old = length-take-le old (new ++ drop n ws) (omega (arith, mid-length)) in
-      let k : old ≡ length new + (old - n) = omega (arith, new-length) in
-      let j : n + (old - n) ≡ old = omega arith in
-      let d : drop old (new ++ drop n ws) ≡ replicate (length ws - old) 0 =
-      ap (λ (m : ℕ). drop m (new ++ drop n ws)) k ∙ drop-append-add new (drop n ws) (old - n) ∙ drop-drop (old - n) n ws
-      ∙ ap (λ (m : ℕ). drop m ws) j ∙ zeros-from ws old old zeros (omega arith) inside in
-      let z : old - n + (length ws - old) ≡ length ws - n = omega arith in
-      rw (t, l, d) (append-assoc new (replicate (old - n) 0) (replicate (length ws - old) 0) ∙ ap (λ (r : List ℕ). new ++ r) (replicate-append-replicate (old - n) (length ws - old) 0 ∙ ap (λ (m : ℕ). replicate m 0) z))
+      let z : old - end + (length ws - old) ≡ length ws - end = omega arith in
+      rw (take-take end old ws h, length-take-le old ws inside, zeros-from ws old old zeros (omega arith) inside)
+      (append-assoc (take end ws) (replicate (old - end) 0) (replicate (length ws - old) 0)
+      ∙ ap (λ (r : List ℕ). take end ws ++ r) (replicate-append-replicate (old - end) (length ws - old) 0 ∙ ap (λ (m : ℕ). replicate m 0) z))
 
-  -- or behind it
-  longer : old ≤ n → cleared (take old (new ++ drop n ws)) n ++ drop old (new ++ drop n ws) ≡ new ++ replicate (length ws - n) 0
-  longer h =
-      rw (cleared-end (take old (new ++ drop n ws)) n (omega (arith, length-take old (new ++ drop n ws))), take-append-drop old (new ++ drop n ws))
-      (ap (λ (r : List ℕ). new ++ r) (zeros-from ws old n zeros h room))
+  -- or behind it: then nothing is cleared
+  same-behind : old ≤ end → end ≤ length ws → ws ≡ between ws end
+  unfolding cleared
+  same-behind h room = sym (take-append-drop end ws) ∙ ap (λ (r : List ℕ). take end ws ++ r) (zeros-from ws old end zeros h room)
 
-  pub put-words : (mid : List ℕ) (e : ℕ) (ys : List ℕ) → e ≡ min (at + length src) (length ws + 1) → mid ≡ laid ws at src → ys ≡ cleared (take old mid) e
-      → ys ++ drop old mid ≡ take at ws ++ (src ++ replicate (length ws - (at + length src)) 0)
-  put-words mid e ys f g y =
-      let i : e ≡ n = omega arith in
-      let w : mid ≡ new ++ drop n ws = g ∙ laid-in ws at src room ∙ sym (append-assoc (take at ws) src (drop n ws)) in
-      rw (y, i, w) (elim (decLe n old) [ yes d ↦ shorter d | no d ↦ longer (omega arith) ] ∙ append-assoc (take at ws) src (replicate (length ws - n) 0))
+  longer : old ≤ end → end ≤ length ws → cleared (take old ws) end ++ drop old ws ≡ between ws end
+  longer h room = rw (cleared-end (take old ws) end (omega (arith, length-take old ws)), take-append-drop old ws) (same-behind h room)
+
+  pub clear-words : end ≤ length ws → (ys : List ℕ) → ys ≡ cleared (take old ws) end → ys ++ drop old ws ≡ between ws end
+  clear-words room ys e = rw e (elim (decLe end old) [ yes d ↦ shorter d | no d ↦ longer (omega arith) room ])
+
+-- ---- the result's words laid over what is left
+pub put-words : (ws : List ℕ) (at : ℕ) (src : List ℕ) → at + length src ≤ length ws → (mid out : List ℕ) → mid ≡ between ws (at + length src) → out ≡ laid mid at src
+    → out ≡ take at ws ++ (src ++ replicate (length ws - (at + length src)) 0)
+unfolding cleared
+put-words ws at src room mid out m e =
+    let n = at + length src in
+    let l : length (take n ws) ≡ n = length-take-le n ws room in
+    let size : length mid ≡ length ws = ap length m ∙ length-append (take n ws) _ ∙ omega (arith, l, length-replicate {A = ℕ} (length ws - n) 0) in
+    let t : take at mid ≡ take at ws = rw m (take-append-le at (take n ws) (replicate (length ws - n) 0) (omega (arith, l)) ∙ take-take at n ws (omega arith)) in
+    let d : drop n mid ≡ replicate (length ws - n) 0 = rw m (drop-at (take n ws) (replicate (length ws - n) 0) n l) in
+    e ∙ laid-in mid at src (omega (arith, size)) ∙ rw (t, d)

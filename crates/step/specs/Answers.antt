@@ -5,6 +5,7 @@ use mathlib.Core.List.{List, _++_}
 use Prim.Native.Nat.{ℕ, _-_}
 use lib.Dec.{eqb}
 use lib.ListN.{length, take, replicate}
+use Rattle.words.specs.Words.{cleared}
 use Rattle.term.specs.Trees.{Tree, words}
 use Rattle.term.specs.Parts.{parse, treeIn}
 use Rattle.term.specs.Terms.{maxWords}
@@ -18,6 +19,10 @@ use Rattle.step.specs.declared.single.Answer as A
 -- a work slice that holds a term, "zeros behind the term"
 unfoldable pub held : Tree → List ℕ
 held t = words t ++ replicate (maxWords - length (words t)) 0
+
+-- What a work slice holds between the clearing and the copying of a result that ends at `end`. 02, CR 6: "below the new end the old words, from there on zeros"
+abbrev pub between : List ℕ → ℕ → List ℕ
+between ws end = cleared ws end
 
 -- the step on the term in the first n words, under what the declarations declare
 unfoldable pub stepIn : List ℕ → List ℕ → ℕ → S.Step → R.Stepped

@@ -21,7 +21,7 @@ ghost use Rattle.declarations.specs.Declarations.{contextIn};
 ghost use Rattle.typing.specs.Answers.{typingOf};
 ghost use Rattle.rules.specs.Steps.{limited, stepOf};
 ghost use Rattle.lent.specs.Lent.{asked};
-ghost use Rattle.step.specs.Answers.{held, stepIn};
+ghost use Rattle.step.specs.Answers.{held, between, stepIn};
 ghost use Rattle.step.specs.Code.Making.{Termed, Seated, Fresh, Made};
 
 // What a step comes to: its code, and the length of the term that is left.
@@ -116,13 +116,22 @@ fn make(ds: &[u16], term: &[u16], s: Step, out: &mut [u16]) -> Rewritten
     )
 }
 
-// Puts the words of a result from the place on into their slice, which had zeros behind its first `old` words, and zeros behind them.
+// Clears a slice behind the new end of a result, before the result is copied. Behind its first `old` words the slice had zeros, and those are not written again. Whoever stops the
+// program between the two sees no tail of the old term.
+fn clear_behind(ws: &mut [u16], end: usize, old: usize)
+    requires { ⌜ (end ≤ length (now ws)) × (old ≤ length (now ws)) × (cleared (now ws) old ≡ now ws) ⌝ }
+    ensures { λ _. ⌜ now (ws .exit) ≡ between (now (ws .entry)) end ⌝ }
+{
+    clear_from(&mut ws[..old], end);
+}
+
+// Puts the words of a result from the place on into their slice, which had zeros behind its first `old` words, and zeros behind them. It clears first, then copies.
 fn put(ws: &mut [u16], place: usize, src: &[u16], old: usize)
     requires { ⌜ (place + length (now src) ≤ length (now ws)) × (old ≤ length (now ws)) × (cleared (now ws) old ≡ now ws) ⌝ }
     ensures { λ _. ⌜ now (ws .exit) ≡ take place (now (ws .entry)) ++ (now (src .entry) ++ replicate (length (now (ws .entry)) - (place + length (now (src .entry)))) 0) ⌝ }
 {
-    let end = append(ws, place, src);
-    clear_from(&mut ws[..old], end);
+    clear_behind(ws, place + src.len(), old);
+    append(ws, place, src);
 }
 
 // One step of the typed term in the first `n` words, which have zeros behind.
