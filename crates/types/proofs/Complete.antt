@@ -46,57 +46,56 @@ agree-scalar : agree scalar scalar ≡ gives scalar
 unfolding agree
 agree-scalar = refl
 
-module _ (Γ : Context) where
-  mutual
-    unfolding typeOf conclude
+mutual
+  unfolding typeOf conclude
 
-    pub complete : {t : Tree} {S : Sort} → Γ ⊢ t ∶ S → (at : ℕ) → typeOf Γ at t ≡ typed S
-    complete (type-var h) at = rw (lt-ltb _ _ h)
-    complete (basis-var e) at = rw e
-    complete (term-var e) at = rw e
-    complete sca-0 at = refl
-    complete sca-1 at = refl
-    complete (sca-delta {s} a b) at = rw (complete a (at + 1), complete b (at + 1 + length (words s)), same-words)
-    complete (sca-add {a} p f) at =
-        let r = complete* f (at + 1 + length (words a)) in rw (complete p (at + 1), r .is) (ap (decide at) (agree-alike agree-scalar (r .alike)))
-    complete (sca-mul {a} p f) at =
-        let r = complete* f (at + 1 + length (words a)) in rw (complete p (at + 1), r .is) (ap (decide at) (agree-alike agree-scalar (r .alike)))
-    complete (sca-conj a) at = rw (complete a (at + 1))
-    complete (sca-dot {B} a b) at = rw (complete a (at + 1), complete b (at + 1 + length (words B)), same-words)
-    complete (base-prod {s} a b h) at = rw (complete a (at + 1), complete b (at + 1 + length (words s)), le-leb _ _ h)
-    complete (pair-base {s} a b h) at = rw (complete a (at + 1), complete b (at + 1 + length (words s)), le-leb _ _ h)
-    complete (ket-0 a) at = rw (complete a (at + 1))
-    complete (ket-base a) at = rw (complete a (at + 1))
-    complete (ket-adj a) at = rw (complete a (at + 1))
-    complete (ket-scr {a} p b) at = rw (complete p (at + 1), complete b (at + 1 + length (words a)))
-    complete (ket-add {K} {σ} a f) at =
-        let r = complete* f (at + 1 + length (words K)) in rw (complete a (at + 1), r .is) (ap (decide at) (agree-alike (agree-ket σ) (r .alike)))
-    complete (ket-mulk {O} a b) at = rw (complete a (at + 1), complete b (at + 1 + length (words O)), same-words)
-    complete (ket-tsr {K} a b h) at = rw (complete a (at + 1), complete b (at + 1 + length (words K)), le-leb _ _ h)
-    complete (bra-0 a) at = rw (complete a (at + 1))
-    complete (bra-base a) at = rw (complete a (at + 1))
-    complete (bra-adj a) at = rw (complete a (at + 1))
-    complete (bra-scr {a} p b) at = rw (complete p (at + 1), complete b (at + 1 + length (words a)))
-    complete (bra-add {B} {σ} a f) at =
-        let r = complete* f (at + 1 + length (words B)) in rw (complete a (at + 1), r .is) (ap (decide at) (agree-alike (agree-bra σ) (r .alike)))
-    complete (bra-mulb {B} a b) at = rw (complete a (at + 1), complete b (at + 1 + length (words B)), same-words)
-    complete (bra-tsr {B} a b h) at = rw (complete a (at + 1), complete b (at + 1 + length (words B)), le-leb _ _ h)
-    complete (opt-0 {s} a b) at = rw (complete a (at + 1), complete b (at + 1 + length (words s)))
-    complete (opt-1 a) at = rw (complete a (at + 1))
-    complete (opt-adj a) at = rw (complete a (at + 1))
-    complete (opt-scr {a} p b) at = rw (complete p (at + 1), complete b (at + 1 + length (words a)))
-    complete (opt-add {O} {σ} {τ} a f) at =
-        let r = complete* f (at + 1 + length (words O)) in
-        rw (complete a (at + 1), r .is) (ap (decide at) (agree-alike (agree-operator σ τ) (r .alike)))
-    complete (opt-outer {K} a b) at = rw (complete a (at + 1), complete b (at + 1 + length (words K)))
-    complete (opt-mulo {O} a b) at = rw (complete a (at + 1), complete b (at + 1 + length (words O)), same-words)
-    complete (opt-tsr {O} a b h k) at = rw (complete a (at + 1), complete b (at + 1 + length (words O)), le-leb _ _ h, le-leb _ _ k)
+  pub complete : (Γ : Context) {t : Tree} {S : Sort} → Γ ⊢ t ∶ S → (at : ℕ) → typeOf Γ at t ≡ typed S
+  complete Γ (type-var h) at = rw (lt-ltb _ _ h)
+  complete Γ (basis-var e) at = rw e
+  complete Γ (term-var e) at = rw e
+  complete Γ sca-0 at = refl
+  complete Γ sca-1 at = refl
+  complete Γ (sca-delta {s} a b) at = rw (complete Γ a (at + 1), complete Γ b (at + 1 + length (words s)), same-words)
+  complete Γ (sca-add {a} p f) at =
+      let r = complete* Γ f (at + 1 + length (words a)) in rw (complete Γ p (at + 1), r .is) (ap (decide at) (agree-alike agree-scalar (r .alike)))
+  complete Γ (sca-mul {a} p f) at =
+      let r = complete* Γ f (at + 1 + length (words a)) in rw (complete Γ p (at + 1), r .is) (ap (decide at) (agree-alike agree-scalar (r .alike)))
+  complete Γ (sca-conj a) at = rw (complete Γ a (at + 1))
+  complete Γ (sca-dot {B} a b) at = rw (complete Γ a (at + 1), complete Γ b (at + 1 + length (words B)), same-words)
+  complete Γ (base-prod {s} a b h) at = rw (complete Γ a (at + 1), complete Γ b (at + 1 + length (words s)), le-leb _ _ h)
+  complete Γ (pair-base {s} a b h) at = rw (complete Γ a (at + 1), complete Γ b (at + 1 + length (words s)), le-leb _ _ h)
+  complete Γ (ket-0 a) at = rw (complete Γ a (at + 1))
+  complete Γ (ket-base a) at = rw (complete Γ a (at + 1))
+  complete Γ (ket-adj a) at = rw (complete Γ a (at + 1))
+  complete Γ (ket-scr {a} p b) at = rw (complete Γ p (at + 1), complete Γ b (at + 1 + length (words a)))
+  complete Γ (ket-add {K} {σ} a f) at =
+      let r = complete* Γ f (at + 1 + length (words K)) in rw (complete Γ a (at + 1), r .is) (ap (decide at) (agree-alike (agree-ket σ) (r .alike)))
+  complete Γ (ket-mulk {O} a b) at = rw (complete Γ a (at + 1), complete Γ b (at + 1 + length (words O)), same-words)
+  complete Γ (ket-tsr {K} a b h) at = rw (complete Γ a (at + 1), complete Γ b (at + 1 + length (words K)), le-leb _ _ h)
+  complete Γ (bra-0 a) at = rw (complete Γ a (at + 1))
+  complete Γ (bra-base a) at = rw (complete Γ a (at + 1))
+  complete Γ (bra-adj a) at = rw (complete Γ a (at + 1))
+  complete Γ (bra-scr {a} p b) at = rw (complete Γ p (at + 1), complete Γ b (at + 1 + length (words a)))
+  complete Γ (bra-add {B} {σ} a f) at =
+      let r = complete* Γ f (at + 1 + length (words B)) in rw (complete Γ a (at + 1), r .is) (ap (decide at) (agree-alike (agree-bra σ) (r .alike)))
+  complete Γ (bra-mulb {B} a b) at = rw (complete Γ a (at + 1), complete Γ b (at + 1 + length (words B)), same-words)
+  complete Γ (bra-tsr {B} a b h) at = rw (complete Γ a (at + 1), complete Γ b (at + 1 + length (words B)), le-leb _ _ h)
+  complete Γ (opt-0 {s} a b) at = rw (complete Γ a (at + 1), complete Γ b (at + 1 + length (words s)))
+  complete Γ (opt-1 a) at = rw (complete Γ a (at + 1))
+  complete Γ (opt-adj a) at = rw (complete Γ a (at + 1))
+  complete Γ (opt-scr {a} p b) at = rw (complete Γ p (at + 1), complete Γ b (at + 1 + length (words a)))
+  complete Γ (opt-add {O} {σ} {τ} a f) at =
+      let r = complete* Γ f (at + 1 + length (words O)) in
+      rw (complete Γ a (at + 1), r .is) (ap (decide at) (agree-alike (agree-operator σ τ) (r .alike)))
+  complete Γ (opt-outer {K} a b) at = rw (complete Γ a (at + 1), complete Γ b (at + 1 + length (words K)))
+  complete Γ (opt-mulo {O} a b) at = rw (complete Γ a (at + 1), complete Γ b (at + 1 + length (words O)), same-words)
+  complete Γ (opt-tsr {O} a b h k) at = rw (complete Γ a (at + 1), complete Γ b (at + 1 + length (words O)), le-leb _ _ h, le-leb _ _ k)
 
-    pub complete* : {f : Forest} {S : Sort} → Γ ⊢* f ∶ S → (at : ℕ) → AllOf Γ at f S
-    complete* every-none at = record { list = []; is = refl; alike = alike-none }
-    complete* (every-more {t} {S} a f) at =
-        let r = complete* f (at + length (words t)) in record { list = S ∷ r .list; is = rw (complete a at, r .is); alike = alike-more (r .alike) }
+  pub complete* : (Γ : Context) {f : Forest} {S : Sort} → Γ ⊢* f ∶ S → (at : ℕ) → AllOf Γ at f S
+  complete* Γ every-none at = record { list = []; is = refl; alike = alike-none }
+  complete* Γ (every-more {t} {S} a f) at =
+      let r = complete* Γ f (at + length (words t)) in record { list = S ∷ r .list; is = rw (complete Γ a at, r .is); alike = alike-more (r .alike) }
 
-  -- a part has one sort
-  pub unique : {t : Tree} {S T : Sort} → Γ ⊢ t ∶ S → Γ ⊢ t ∶ T → S ≡ T
-  unique a b = cc (complete a 0, complete b 0)
+-- a part has one sort
+pub unique : (Γ : Context) {t : Tree} {S T : Sort} → Γ ⊢ t ∶ S → Γ ⊢ t ∶ T → S ≡ T
+unique Γ a b = cc (complete Γ a 0, complete Γ b 0)
