@@ -43,7 +43,7 @@ build() {
     touch "$program"
 }
 
-# --- the rules by number, as document 01 lists them ---
+# --- the rules by number, as document 01 and its change requests list them ---
 
 # rule_name NUMBER: the rule's name; nothing where there is no such rule. A row is the first and
 # the last number of a family and its name; in a family the names are counted from 0.
@@ -83,6 +83,7 @@ rule_name() {
 140 145 OUTER
 150 162 MULO
 170 170 SWAP
+180 183 SUM
 RULES
 }
 
@@ -164,6 +165,15 @@ about_line() {
     esac
 }
 
+# about_bound FILE SIDE OFFSET: what code 13 says of a word.
+about_bound() {
+    token=$(token "$1" "$2" "$3")
+    case $token in
+        27) echo "the sum over a basis at word $3 of the $2 side is the ninth nested; at most 8 are" ;;
+        *) echo "the bound basis at word $3 of the $2 side (token $token) has no such sum over a basis around it" ;;
+    esac
+}
+
 # about_step FILE CODE SIDE STEP: what codes 20 to 23 say of a step.
 about_step() {
     read -r rule place i j << STEP
@@ -199,6 +209,7 @@ in_words() {
         10) echo "refused: the $side side has no type: the part at word $at (token $(token "$1" "$side" "$at")) has none" ;;
         11) echo "refused: the $side side is an index or a basis; a scalar, ket, bra or operator is wanted" ;;
         12) echo "refused: the two sides have different types" ;;
+        13) echo "refused: $(about_bound "$1" "$side" "$at")" ;;
         2[0-3]) echo "refused: $(about_step "$1" "$code" "$side" "$step")" ;;
         30) echo "refused: no step is wrong, but after $(steps "$step") the two sides differ, first at word $at" ;;
         *) echo "refused: an answer that this script does not know" ;;

@@ -51,6 +51,7 @@ extern "C" {
 #define FEJOGBU_UNTYPED 10        /* The term on the side named has no type; `at` is the offset of the part that has none. */
 #define FEJOGBU_NO_TERM 11        /* The side named is an index or a basis, and not a term. */
 #define FEJOGBU_TYPES_DIFFER 12   /* The two terms have different types. */
+#define FEJOGBU_UNBOUND 13        /* On the side named a bound basis (head 28) has no such sum (head 27) around it, or a ninth sum is nested; `at` is the lowest offset of either. */
 /* the doing of the maker of the steps: `step` is from 1, `at` its place, `side` its side, and the work slices hold the terms before it */
 #define FEJOGBU_NO_RULE 20        /* There is no rule of this number. */
 #define FEJOGBU_NO_PLACE 21       /* The place is not below the term's length. */
@@ -72,16 +73,16 @@ uint64_t fejogbu_replay(const uint8_t *bytes, size_t bytes_size, uint16_t *left,
                         size_t answer_size);
 
 /* Takes the first `count` lent steps, of eight words each, on the terms in the first `n` words of `left` and the first `m` of `right`, and compares the ends. The answer is that of the
- * replay; 1, 7, 8, 6, 9, 5, then 10, 11 and 12 are tested in this order, and the lines that a file's 5 to 9 name are 0. */
+ * replay; 1, 7, 8, 6, 9, 5, then 13, 10 and 11 of the left, of the right, and 12 are tested in this order, and the lines that a file's 5 to 9 name are 0. */
 uint64_t fejogbu_run(const uint16_t *declarations, size_t declarations_size, uint16_t *left, size_t left_size, size_t n, uint16_t *right, size_t right_size,
                      size_t m, const uint16_t *steps, size_t steps_size, size_t count, uint64_t *answer, size_t answer_size);
 
-/* Takes one step on the term in the first `n` words of `term`: a rule at a place, with two indices among the children. The answer is code (0, 1, 7, 8, 10, 11, 20 to 23), side (0), step (1
+/* Takes one step on the term in the first `n` words of `term`: a rule at a place, with two indices among the children. The answer is code (0, 1, 7, 8, 13, 10, 11, 20 to 23), side (0), step (1
  * from 20 on and for a good step), at, and the length of the term that is left. */
 uint64_t fejogbu_step(const uint16_t *declarations, size_t declarations_size, uint16_t *term, size_t term_size, size_t n, uint16_t rule, uint16_t place,
                       uint16_t i, uint16_t j, uint64_t *answer, size_t answer_size);
 
-/* Finds the type of the term in the first `n` words of `term`, which is not written. The answer is code (0, 1, 7, 8, 10, 11), side (0), step (0), at, the term's length and depth, the
+/* Finds the type of the term in the first `n` words of `term`, which is not written. The answer is code (0, 1, 7, 8, 13, 10, 11), side (0), step (0), at, the term's length and depth, the
  * type's kind, and the lengths of the indices of its rows and of its columns. The words of these go into `rows` and `columns`, with zeros behind; a ket has rows alone, a bra columns
  * alone, a scalar neither. */
 uint64_t fejogbu_typing(const uint16_t *declarations, size_t declarations_size, const uint16_t *term, size_t term_size, size_t n, uint64_t *answer,

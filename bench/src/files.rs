@@ -31,6 +31,12 @@ pub fn swaps(words: usize, steps: usize) -> Vec<u8> {
     file(HEADER, &term, &term, &vec!["L 170 0 0 0".to_string(); steps])
 }
 
+/// The same in the body of a sum over a basis.
+fn swaps_in_a_body(words: usize, steps: usize) -> Vec<u8> {
+    let term = format!("27 1:0 {}", sum(words));
+    file(HEADER, &term, &term, &vec!["L 170 2 0 0".to_string(); steps])
+}
+
 /// Zero scalings taken away one by one, each of which needs a type (43).
 fn typed(steps: usize) -> Vec<u8> {
     let term = format!("20:{steps}{}", " 19 5 26:0".repeat(steps));
@@ -71,6 +77,7 @@ pub fn table() -> Vec<(&'static str, Vec<u8>)> {
         ("the session of the scope", session.as_bytes().to_vec()),
         ("1,000 swaps on 30 words", swaps(30, 1000)),
         ("1,000 swaps on 3,826 words", swaps(3826, 1000)),
+        ("1,000 swaps in a body of 3,826 words", swaps_in_a_body(3826, 1000)),
         ("no steps on 30 words", swaps(30, 0)),
         ("no steps on 3,826 words", swaps(3826, 0)),
         ("250 steps that need a type", typed(250)),

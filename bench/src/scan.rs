@@ -4,7 +4,7 @@
 const COUNTED: u8 = 255;
 
 /// The number of children of each head.
-const CHILDREN: [u8; 27] = [0, 0, 2, 0, 2, 0, 0, COUNTED, COUNTED, 1, 2, 2, 1, 1, 2, 1, 1, 1, 1, 2, COUNTED, 2, 2, 2, 2, 2, 0];
+const CHILDREN: [u8; 29] = [0, 0, 2, 0, 2, 0, 0, COUNTED, COUNTED, 1, 2, 2, 1, 1, 2, 1, 1, 1, 1, 2, COUNTED, 2, 2, 2, 2, 2, 0, 2, 0];
 
 /// Where the part ends that the words begin with: each word is read once, and the parts still to come are counted. The words are a term's, so
 /// low bytes that a head must not carry are not looked for. It stays a function of its own, to be compiled the same whoever calls it.

@@ -98,6 +98,11 @@ fn sum(part: &str, n: usize) -> String {
     format!("20:{} {}", rows.len(), rows.join(" "))
 }
 
+/// Eight sums over a basis around a sum of `n` kets that use the bases of the outermost, the innermost and one between.
+fn nested(n: usize) -> String {
+    format!("{}{}", "27 1:0 ".repeat(8), sum("19 10 28:7 28:0 16 28:3", n))
+}
+
 /// Each with how long its indices are: false for one word, true for 63.
 pub fn table() -> Vec<(&'static str, bool, String)> {
     let everyday = "20:2 22 26:2 26:0 19 11 26:1 26:0 26:0";
@@ -113,6 +118,7 @@ pub fn table() -> Vec<(&'static str, bool, String)> {
         ("adjoints of operators", false, sum("18 26:2", 1800)),
         ("tensors of three kets", false, sum("21 26:0 21 26:0 26:0", 700)),
         ("tensors of two operators", false, sum("21 26:2 26:2", 1200)),
+        ("a sum over a basis nested 8 deep", false, nested(660)),
         ("a sum of 255 kets", true, sum("26:0", 255)),
         ("15 sums of 255 kets", true, sum("26:0", 3825)),
         ("operators on operators on kets", true, sum("22 26:2 22 26:2 26:0", 600)),

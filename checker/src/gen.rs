@@ -28,19 +28,28 @@ use terms::product;
 pub struct Gen {
     pub rng: Rng,
     pub declared: Declarations,
+    /// Whether terms have sums over a basis.
+    sums: bool,
+    /// The indices of the sums whose bodies hold what is made, outermost first.
+    bound: Vec<Vec<u16>>,
 }
 
 impl Gen {
     /// A generator with declarations of its own.
     pub fn new(seed: u64) -> Self {
-        let mut gen = Gen { rng: Rng::new(seed), declared: Declarations::default() };
+        let rng = Rng::new(seed);
+        let mut gen =
+            Gen { rng, declared: Declarations::default(), sums: false, bound: Vec::new() };
         gen.declare();
         gen
     }
 
     /// New declarations: a few types; bases and variables for each of them and
-    /// for some products, so that a basis of a product need not be a pair.
+    /// for some products, so that a basis of a product need not be a pair. Now and
+    /// then terms over them have sums over a basis.
     pub fn declare(&mut self) {
+        self.sums = self.rng.below(5) < 2;
+        self.bound.clear();
         let types = self.rng.within(1, 3);
         self.declared = Declarations { types, ..Declarations::default() };
         let atoms: Vec<Vec<u16>> = (0..types).map(|a| vec![word(TYPE, a as u8)]).collect();

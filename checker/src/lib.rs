@@ -4,6 +4,7 @@
 
 #![forbid(unsafe_code)]
 
+pub mod bodies;
 pub mod case;
 pub mod decl;
 pub mod file;

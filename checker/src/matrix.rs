@@ -43,6 +43,9 @@ pub struct Matrix {
 /// The most entries that are worked out.
 const ENTRIES: usize = 1 << 14;
 
+/// The most words that are read; those of a body are read once for each basis.
+const READ: usize = 1 << 16;
+
 impl Matrix {
     /// The matrix with these entries, if it is not too large.
     pub fn new(
@@ -149,7 +152,7 @@ pub fn meaning(declared: &Declarations, choice: &Choice, words: &[u16]) -> Optio
     if !(1..=DEPTH).contains(&part(words, 0).depth) {
         return None;
     }
-    Reader { declared, choice, words, at: 0 }.term()
+    Reader { declared, choice, words, at: 0, left: READ, bound: Vec::new() }.term()
 }
 
 struct Reader<'t> {
@@ -157,11 +160,16 @@ struct Reader<'t> {
     choice: &'t Choice,
     words: &'t [u16],
     at: usize,
+    /// How many words may still be read.
+    left: usize,
+    /// The running index and the dimension of each sum around, outermost first.
+    bound: Vec<(usize, usize)>,
 }
 
 impl Reader<'_> {
     fn next(&mut self) -> Option<u16> {
         let word = *self.words.get(self.at)?;
+        self.left = self.left.checked_sub(1)?;
         self.at += 1;
         Some(word)
     }
@@ -213,9 +221,28 @@ impl Reader<'_> {
             }
             TSR => self.term()?.tensor(&self.term()?),
             DOT | MULK | MULB | OUTER | MULO => self.term()?.times(&self.term()?),
+            SUM => self.over(),
             VARIABLE => self.choice.variables.get(usize::from(low(word))).cloned(),
             _ => None,
         }
+    }
+
+    /// The sum of the body over all indices of the dimension.
+    fn over(&mut self) -> Option<Matrix> {
+        let d = self.index()?;
+        let body = self.at;
+        let mut sum = None;
+        for value in 0..d {
+            self.at = body;
+            self.bound.push((value, d));
+            let term = self.term()?;
+            self.bound.pop();
+            sum = Some(match sum {
+                None => term,
+                Some(sum) => term.plus(&sum)?,
+            });
+        }
+        sum
     }
 
     /// The index that a basis names, and the dimension it is below.
@@ -226,6 +253,10 @@ impl Reader<'_> {
                 let a = usize::from(low(word));
                 let index = self.declared.bases.get(a)?;
                 Some((*self.choice.bases.get(a)?, dimension(index, &self.choice.dimensions)?))
+            }
+            BOUND => {
+                let outer = self.bound.len().checked_sub(usize::from(low(word)) + 1)?;
+                Some(self.bound[outer])
             }
             PAIR => {
                 let (s, d) = self.basis()?;

@@ -4,7 +4,9 @@
 //! order of terms, so that matching and writing are one walk each. A letter's
 //! kind is fixed by the letter (a, b scalars; K kets; B bras; O operators;
 //! X, Y any of the three), and the kinds of its factors tell which product a
-//! dot is. A text that is not of the notation does not compile.
+//! dot is. `Σ_σ(…)` is a sum over the basis of σ; in its body i is the basis that
+//! it binds, and a letter is a basis that does not use it. A text that is not of
+//! the notation does not compile.
 
 use crate::words::*;
 
@@ -12,13 +14,19 @@ use crate::words::*;
 const ITEMS: usize = 12;
 pub const SLOTS: usize = 8;
 
-/// One step through a term: a word, a part by its letter, or a sum or product
-/// of as many children as come. On the right side the items behind `Each` are
+/// The basis that the innermost sum around it binds. A basis has no bodies in
+/// it, so that it uses this one exactly where it has this word.
+pub const OWN: u16 = word(BOUND, 0);
+
+/// One step through a term: a word, a part by its letter, such a part that must
+/// not use the basis of the sum around it, or a sum or product of as many
+/// children as come. On the right side the items behind `Each` are
 /// written once for every child, the slot standing for the child.
 #[derive(Clone, Copy, PartialEq, Eq, Debug)]
 pub enum Item {
     Word(u16),
     Part(u8),
+    Apart(u8),
     Each { head: u8, slot: u8 },
 }
 
@@ -99,6 +107,7 @@ pub const fn law(text: &str) -> Law {
         letters: [Letter { letter: ' ', index: ' ', prime: false }; SLOTS],
         known: 0,
         each: None,
+        in_body: false,
         out: Items::EMPTY,
     };
     let premise = reader.premise();
@@ -128,6 +137,7 @@ struct Reader<'t> {
     known: usize,
     /// The slot of the left side's sum or product of n children.
     each: Option<u8>,
+    in_body: bool,
     out: Items,
 }
 
@@ -405,12 +415,28 @@ impl Reader<'_> {
                 self.expect(')');
                 Kind::Scalar
             }
+            'Σ' => self.sum_over(),
             letter => {
+                assert!(!self.in_body, "a letter in a body is a basis");
                 let slot = self.letter();
                 self.out.push(Item::Part(slot));
                 kind_of(letter)
             }
         }
+    }
+
+    const fn sum_over(&mut self) -> Kind {
+        self.next();
+        self.expect('_');
+        self.head(SUM);
+        self.index();
+        self.expect('(');
+        assert!(!self.in_body, "a sum over a basis in a body");
+        self.in_body = true;
+        let kind = self.sum();
+        self.in_body = false;
+        self.expect(')');
+        kind
     }
 
     const fn head(&mut self, head: u8) {
@@ -437,9 +463,11 @@ impl Reader<'_> {
             self.expect(',');
             self.basis();
             self.expect(')');
+        } else if self.in_body && self.take('i') {
+            self.out.push(Item::Word(OWN));
         } else {
             let slot = self.letter();
-            self.out.push(Item::Part(slot));
+            self.out.push(if self.in_body { Item::Apart(slot) } else { Item::Part(slot) });
         }
     }
 }

@@ -1,10 +1,11 @@
-//! The 118 rules, by the numbers of document 01 and in the words of source
-//! document 002. A line that 002 writes as one equation is the rule itself
+//! The 122 rules, by the numbers of document 01 and its change requests, in the
+//! words of source document 002. A line that 002 writes as one equation is the rule itself
 //! (see `notation`); the others name the family that carries them out.
 
+use crate::bodies::{names_bound, Around};
 use crate::decl::Declarations;
-use crate::notation::{law, Item, Items, Kind, Law, Premise, SLOTS};
-use crate::typing::{self, type_of};
+use crate::notation::{law, Item, Items, Kind, Law, Premise, OWN, SLOTS};
+use crate::typing::{self, type_around};
 use crate::words::*;
 
 /// How a rule is carried out.
@@ -23,6 +24,8 @@ pub enum Way {
     Collect { i_scaled: bool, j_scaled: bool },
     /// Children i and i + 1 are exchanged.
     Swap,
+    /// A sum over a basis is spread over its body, a sum.
+    SpreadBody,
 }
 
 pub struct Rule {
@@ -50,7 +53,7 @@ const fn collect(i_scaled: bool, j_scaled: bool) -> Way {
 
 /// All rules, ordered by number.
 #[rustfmt::skip]
-pub static RULES: [Rule; 118] = [
+pub static RULES: [Rule; 122] = [
     // Table 1: the special flattening rule (here one child a step; also for × and for X).
     by(Way::Merge, 1, "FLATTEN", "a1+…+(b1+…+bm)+…+an ▷ a1+…+b1+…+bm+…+an"),
     // Table 2: scalar addition and multiplication.
@@ -181,6 +184,11 @@ pub static RULES: [Rule; 118] = [
     rule(162, "MULO12", "(O1⊗O2)·((O1'⊗O2')·O3) ▷ ((O1·O1')⊗(O2·O2'))·O3"),
     // Document 01's own (also for × and for X).
     by(Way::Swap, 170, "SWAP", "a1+…+ai+aj+…+an ▷ a1+…+aj+ai+…+an, j = i + 1"),
+    // Change request 1's own; i is the basis that the sum binds (182 also for X).
+    rule(180, "SUM0", "Σ_σ(0) ▷ 0"),
+    rule(181, "SUM1", "Σ_σ(|i⟩·⟨i|) ▷ 1_O(σ)"),
+    by(Way::SpreadBody, 182, "SUM2", "Σ_σ(a1+…+an) ▷ Σ_σ(a1)+…+Σ_σ(an)"),
+    rule(183, "SUM3", "Σ_σ(δ(s,i)) ▷ 1"),
 ];
 
 /// The rule of a number.
@@ -233,6 +241,14 @@ impl<'w> Out<'w> {
     }
 }
 
+/// A part of a term, and where it stands there.
+#[derive(Clone, Copy)]
+pub struct Spot<'t> {
+    pub term: &'t [u16],
+    pub place: usize,
+    pub part: &'t [u16],
+}
+
 /// A sum or product, opened.
 struct Opened<'t> {
     head: u8,
@@ -269,24 +285,27 @@ impl Rule {
             Way::Remove { parent, .. } => first == *parent,
             Way::Absorb | Way::Spread => first == MULS,
             Way::Collect { .. } => first == ADD,
+            Way::SpreadBody => first == SUM,
         }
     }
 
-    /// Writes what a typed part becomes. Nothing when with these indices it is
+    /// Writes what a part of a typed term becomes. Nothing when with these indices it is
     /// no instance of the left side; `out` knows whether the result fitted.
     pub fn apply(
         &self,
         declared: &Declarations,
-        part: &[u16],
+        spot: Spot,
         i: usize,
         j: usize,
         out: &mut Out,
     ) -> Option<()> {
+        let part = spot.part;
         match &self.way {
             Way::Collect { i_scaled, j_scaled } => collected(part, i, j, *i_scaled, *j_scaled, out),
             _ if j != 0 => None,
-            Way::Law(law) if i == 0 => lawful(law, declared, part, out),
-            Way::Law(_) => None,
+            Way::Law(law) if i == 0 => lawful(law, declared, spot, out),
+            Way::SpreadBody if i == 0 => spread_body(part, out),
+            Way::Law(_) | Way::SpreadBody => None,
             Way::Merge => merged(part, i, out),
             Way::Remove { parent, unit } => removed(part, i, *parent, *unit, out),
             Way::Absorb => absorbed(part, i, out),
@@ -406,16 +425,39 @@ fn swapped(part: &[u16], i: usize, out: &mut Out) -> Option<()> {
     Some(())
 }
 
+/// 182: a sum over a basis whose body is a sum is a sum of sums over it.
+fn spread_body(part: &[u16], out: &mut Out) -> Option<()> {
+    let (&first, rest) = part.split_first()?;
+    let (index, body) = split_part(rest);
+    let sum = Opened::new(body).filter(|sum| head(first) == SUM && sum.head != MULS)?;
+    out.counted(sum.head, sum.children);
+    for summand in parts(sum.words) {
+        out.word(SUM, 0);
+        out.part(index);
+        out.part(summand);
+    }
+    Some(())
+}
+
 /// Every rule that is one equation.
-fn lawful(law: &Law, declared: &Declarations, part: &[u16], out: &mut Out) -> Option<()> {
-    let mut bound = fit(&law.left, part)?;
+fn lawful(law: &Law, declared: &Declarations, spot: Spot, out: &mut Out) -> Option<()> {
+    let mut bound = fit(&law.left, spot.part)?;
     let found;
     if let Some(premise) = &law.premise {
-        found = type_of(declared, bound[usize::from(premise.slot)]).ok()?;
+        found = type_at(declared, spot, bound[usize::from(premise.slot)])?;
         bind_type(premise, &found, &mut bound)?;
     }
     write(law.right.get(), bound, out);
     Some(())
+}
+
+/// The type of what a letter of a premise stands for. No rule with a premise has
+/// a body in its left side: the bodies around the letter are those around the
+/// whole, and need to be found only where it names their bases.
+fn type_at(declared: &Declarations, spot: Spot, part: &[u16]) -> Option<typing::Type> {
+    let around =
+        if names_bound(part) { Around::of(spot.term, spot.place) } else { Around::default() };
+    type_around(declared, around, part).ok()
 }
 
 /// The parts that the letters of a left side stand for; a sum's letter stands
@@ -429,10 +471,13 @@ fn fit<'t>(left: &Items, part: &'t [u16]) -> Option<[&'t [u16]; SLOTS]> {
             Item::Word(word) if word == first => rest = &rest[1..],
             Item::Word(_) => return None,
             Item::Each { head, .. } if head != self::head(first) => return None,
-            Item::Part(slot) | Item::Each { slot, .. } => {
+            Item::Part(slot) | Item::Apart(slot) | Item::Each { slot, .. } => {
                 let (here, behind) = split_part(rest);
                 let place = &mut bound[usize::from(slot)];
                 if !place.is_empty() && *place != here {
+                    return None;
+                }
+                if matches!(item, Item::Apart(_)) && here.contains(&OWN) {
                     return None;
                 }
                 *place = here;
@@ -466,7 +511,7 @@ fn write(items: &[Item], mut bound: [&[u16]; SLOTS], out: &mut Out) {
     for (k, item) in items.iter().enumerate() {
         match *item {
             Item::Word(word) => out.part(&[word]),
-            Item::Part(slot) => out.part(bound[usize::from(slot)]),
+            Item::Part(slot) | Item::Apart(slot) => out.part(bound[usize::from(slot)]),
             Item::Each { head, slot } => {
                 let Some(sum) = Opened::new(bound[usize::from(slot)]) else {
                     return;

@@ -4,7 +4,7 @@
 use crate::decl::Declarations;
 use crate::file::{Script, STEPS};
 use crate::step::{rewrite, Step};
-use crate::typing::{type_of, Type, Untyped};
+use crate::typing::{type_of, Type};
 use crate::words::{test, Side, WORDS};
 use std::fmt;
 
@@ -122,7 +122,7 @@ pub(crate) fn run_in(
 }
 
 /// The script again, where its terms have types and these are equal: codes 10
-/// to 12.
+/// to 13.
 fn typed_alike(script: Script, left: &[u16], right: &[u16]) -> Result<Script, Answer> {
     let type_of_left = typed(&script, Side::Left, &left[..script.left])?;
     let type_of_right = typed(&script, Side::Right, &right[..script.right])?;
@@ -134,10 +134,7 @@ fn typed_alike(script: Script, left: &[u16], right: &[u16]) -> Result<Script, An
 
 fn typed(script: &Script, side: Side, words: &[u16]) -> Result<Type, Answer> {
     type_of(&script.declared, words).map_err(|untyped| {
-        let (code, at) = match untyped {
-            Untyped::At(at) => (10, at),
-            Untyped::NoTerm => (11, 0),
-        };
+        let (code, at) = untyped.code();
         Answer { side: number(side), at, ..Answer::refused(code) }
     })
 }

@@ -1,7 +1,7 @@
 //! One step: a rule at a place, with its limits on the whole result.
 
 use crate::decl::Declarations;
-use crate::rules::{by_number, Out};
+use crate::rules::{by_number, Out, Spot};
 use crate::typing::typing;
 use crate::words::{ancestors, part, Part, DEPTH, WORDS};
 
@@ -29,10 +29,12 @@ pub(crate) fn rewrite(
     if place >= length {
         return Err(21);
     }
-    let Part { words: old, depth: before } = part(&slice[..length], place);
+    let term = &slice[..length];
+    let Part { words: old, depth: before } = part(term, place);
     let room = scratch.len() - (length - old.len());
     let mut out = Out::new(&mut scratch[..room]);
-    rule.apply(declared, old, step.i.into(), step.j.into(), &mut out).ok_or(22)?;
+    let spot = Spot { term, place, part: old };
+    rule.apply(declared, spot, step.i.into(), step.j.into(), &mut out).ok_or(22)?;
     let new = out.done().ok_or(23)?;
 
     // A place has at most as many ancestors as words before it, and only a

@@ -5,6 +5,7 @@
 //! fails is the one to tell. The words of the indices live on one stack; most
 //! rules leave them where they are.
 
+use crate::bodies::{unbound, Around};
 use crate::decl::{Declarations, Letter};
 use crate::words::*;
 
@@ -48,6 +49,9 @@ impl Type {
 /// Why a tested part is no term with a type.
 #[derive(Clone, Copy, PartialEq, Eq, Debug)]
 pub enum Untyped {
+    /// The bound basis at this offset has no sum, or the sum there is nested
+    /// too deep (code 13).
+    Unbound(usize),
     /// The part at this offset has no type (code 10).
     At(usize),
     /// It is an index or a basis (code 11).
@@ -62,9 +66,32 @@ enum Sort {
     Term(Kind),
 }
 
-/// The type of words that passed the test of a term.
+impl Untyped {
+    /// The code, and the place that it tells.
+    pub(crate) fn code(self) -> (u8, usize) {
+        match self {
+            Untyped::Unbound(at) => (13, at),
+            Untyped::At(at) => (10, at),
+            Untyped::NoTerm => (11, 0),
+        }
+    }
+}
+
+/// The type of words that passed the test of a term. A typed part has no place
+/// of code 13, so these are looked for only where there is no type.
 pub(crate) fn type_of(declared: &Declarations, words: &[u16]) -> Result<Type, Untyped> {
-    let mut typer = Typer { declared, words, at: 0, stack: Vec::with_capacity(4 * INDEX) };
+    type_around(declared, Around::default(), words)
+        .map_err(|untyped| unbound(words).map_or(untyped, Untyped::Unbound))
+}
+
+/// The type of a part that stands inside these bodies.
+pub(crate) fn type_around(
+    declared: &Declarations,
+    around: Around,
+    words: &[u16],
+) -> Result<Type, Untyped> {
+    let stack = Vec::with_capacity(4 * INDEX);
+    let mut typer = Typer { declared, words, at: 0, around, stack };
     let Sort::Term(kind) = typer.part(1).map_err(Untyped::At)? else {
         return Err(Untyped::NoTerm);
     };
@@ -83,6 +110,7 @@ struct Typer<'t> {
     declared: &'t Declarations,
     words: &'t [u16],
     at: usize,
+    around: Around<'t>,
     stack: Vec<u16>,
 }
 
@@ -106,6 +134,7 @@ impl Typer<'_> {
                 let child = self.part(deep + 1)?;
                 self.unary(head(word), base, child)
             }
+            Form::Fixed(_) if head(word) == SUM => self.over(base, deep)?,
             Form::Fixed(_) => {
                 if matches!(head(word), PRODUCT | PAIR | TSR) {
                     self.stack.push(self::word(PRODUCT, 0));
@@ -130,6 +159,7 @@ impl Typer<'_> {
                 self.stack.extend_from_slice(index);
                 Some(Sort::Basis(index.len()))
             }
+            BOUND => self.bound(low(word)),
             _ => {
                 let variable = self.declared.variables.get(a)?;
                 self.stack.extend_from_slice(&variable.words);
@@ -145,6 +175,15 @@ impl Typer<'_> {
                 }))
             }
         }
+    }
+
+    /// A bound basis. Here and in `over` a call of its own keeps the walk over
+    /// terms without sums as fast as it is.
+    #[inline(never)]
+    fn bound(&mut self, a: u8) -> Option<Sort> {
+        let index = self.around.index(a)?;
+        self.stack.extend_from_slice(index);
+        Some(Sort::Basis(index.len()))
     }
 
     /// A sum or product: all children of one kind and the same index words.
@@ -172,6 +211,22 @@ impl Typer<'_> {
                 _ => false,
             }
         }))
+    }
+
+    /// A sum over a basis: its body is typed inside one body more, and has its
+    /// type. The ninth body is left to `unbound`.
+    #[inline(never)]
+    fn over(&mut self, base: usize, deep: usize) -> Result<Option<Sort>, usize> {
+        let begin = self.at;
+        let index = self.part(deep + 1)?;
+        self.stack.truncate(base);
+        let index = matches!(index, Sort::Index(_)).then(|| &self.words[begin..self.at]);
+        if !self.around.enter(index) {
+            return Ok(None);
+        }
+        let body = self.part(deep + 1)?;
+        self.around.leave();
+        Ok(Some(body).filter(|body| index.is_some() && matches!(body, Sort::Term(_))))
     }
 
     fn unary(&mut self, head: u8, base: usize, child: Sort) -> Option<Sort> {
@@ -287,7 +342,9 @@ pub fn typing(declared: &Declarations, slice: &[u16], length: usize) -> Typing {
     };
     match type_of(declared, words) {
         Ok(found) => Typing { code: 0, at: 0, length, depth, found },
-        Err(Untyped::At(at)) => Typing::refused(10, at),
-        Err(Untyped::NoTerm) => Typing::refused(11, 0),
+        Err(untyped) => {
+            let (code, at) = untyped.code();
+            Typing::refused(code, at)
+        }
     }
 }

@@ -11,6 +11,8 @@ pub const INDEX: usize = 63;
 pub const NAMES: usize = 32;
 /// The most children of a sum or product.
 pub const CHILDREN: usize = 255;
+/// The most bodies of sums over a basis that are nested.
+pub const BODIES: usize = 8;
 
 pub const TYPE: u8 = 1;
 pub const PRODUCT: u8 = 2;
@@ -38,13 +40,15 @@ pub const MULB: u8 = 23;
 pub const OUTER: u8 = 24;
 pub const MULO: u8 = 25;
 pub const VARIABLE: u8 = 26;
+pub const SUM: u8 = 27;
+pub const BOUND: u8 = 28;
 
 /// What the low byte of a word says, and with it how many children follow.
 #[derive(Clone, Copy, PartialEq, Eq, Debug)]
 pub enum Form {
     /// No such head.
     Unknown,
-    /// The byte is a name; no children.
+    /// The byte is a name, or tells which sum binds a basis; no children.
     Name,
     /// The byte is the number of children.
     Count,
@@ -53,7 +57,7 @@ pub enum Form {
 }
 
 /// The table of heads, by number.
-const FORMS: [Form; 27] = {
+const FORMS: [Form; 29] = {
     use Form::*;
     [
         Unknown,  // 0
@@ -83,6 +87,8 @@ const FORMS: [Form; 27] = {
         Fixed(2), // 24 ket times bra
         Fixed(2), // 25 operator times operator
         Name,     // 26 variable
+        Fixed(2), // 27 sum over the bases of an index, of a body
+        Name,     // 28 basis that such a sum binds
     ]
 };
 

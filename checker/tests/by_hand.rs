@@ -3,8 +3,10 @@
 
 use checker::decl::{Declarations, Letter, Variable};
 use checker::file::words;
+use checker::matrix::{meaning, shape, Choice, Gauss, Matrix};
 use checker::rules::{Way, RULES};
 use checker::step::{single, Step};
+use checker::typing::typing;
 use checker::words::{part, part_of, tokens, word, Part, Side, WORDS};
 
 /// The types S, T, U, V.
@@ -87,7 +89,7 @@ fn step(rule: u16, i: u16, j: u16, term: &[u16]) -> (u8, String) {
 }
 
 /// Rule, i, j, the part, what it becomes.
-const RESULTS: [(u16, u16, u16, &str, &str); 123] = [
+const RESULTS: [(u16, u16, u16, &str, &str); 134] = [
     (1, 1, 0, "7:3 a 7:2 b c a", "7:4 a b c a"),
     (1, 0, 0, "8:2 8:1 a b", "8:2 a b"),
     (1, 1, 0, "20:2 kS 20:2 lS kS", "20:3 kS lS kS"),
@@ -211,6 +213,17 @@ const RESULTS: [(u16, u16, u16, &str, &str); 123] = [
     (170, 0, 0, "7:2 a b", "7:2 b a"),
     (170, 0, 0, "8:3 a b c", "8:3 b a c"),
     (170, 1, 0, "20:3 kS lS kS", "20:3 kS kS lS"),
+    (180, 0, 0, "27 S 5", "5"),
+    (180, 0, 0, "27 2 S T 5", "5"),
+    (181, 0, 0, "27 S 24 16 28:0 17 28:0", "15 S"),
+    (181, 0, 0, "27 2 S T 24 16 28:0 17 28:0", "15 2 S T"),
+    (182, 0, 0, "27 S 7:2 a 10 s 28:0", "7:2 27 S a 27 S 10 s 28:0"),
+    (182, 0, 0, "27 2 S T 7:1 a", "7:1 27 2 S T a"),
+    (182, 0, 0, "27 S 20:2 16 28:0 19 a kS", "20:2 27 S 16 28:0 27 S 19 a kS"),
+    (182, 0, 0, "27 S 20:1 27 T 24 16 28:1 17 28:0", "20:1 27 S 27 T 24 16 28:1 17 28:0"),
+    (183, 0, 0, "27 S 10 s 28:0", "6"),
+    (183, 0, 0, "27 2 S T 10 4 s t 28:0", "6"),
+    (183, 0, 0, "27 2 2 S T U 10 4 4 s t u 28:0", "6"),
 ];
 
 #[test]
@@ -232,14 +245,14 @@ fn unused_indices_are_zero() {
         if !matches!(way, Way::Collect { .. }) {
             assert_eq!(step(rule, i, j + 1, &read(part)).0, 22, "rule {rule}, j");
         }
-        if matches!(way, Way::Law(_)) {
+        if matches!(way, Way::Law(_) | Way::SpreadBody) {
             assert_eq!(step(rule, i + 1, j, &read(part)).0, 22, "rule {rule}, i");
         }
     }
 }
 
 /// Rule, i, j, a typed part that is no instance.
-const REFUSED: [(u16, u16, u16, &str); 77] = [
+const REFUSED: [(u16, u16, u16, &str); 98] = [
     (1, 0, 0, "7:2 8:1 a b"),
     (1, 2, 0, "7:2 7:1 a b"),
     (1, 0, 0, "7:2 a 7:1 b"),
@@ -317,6 +330,27 @@ const REFUSED: [(u16, u16, u16, &str); 77] = [
     (170, 65535, 0, "7:2 a b"),
     (170, 0, 0, "10 s p"),
     (170, 0, 0, "21 kS kU"),
+    (1, 0, 0, "27 S 7:1 7:1 a"),
+    (170, 0, 0, "27 S 7:2 a b"),
+    (180, 0, 0, "27 S 6"),
+    (180, 0, 0, "27 S 7:1 5"),
+    (180, 0, 0, "27 S 27 S 5"),
+    (180, 0, 0, "27 S 12 S"),
+    (181, 0, 0, "27 S 24 16 28:0 17 s"),
+    (181, 0, 0, "27 S 24 16 s 17 28:0"),
+    (181, 0, 0, "27 S 24 16 s 17 s"),
+    (181, 0, 0, "27 S 20:1 24 16 28:0 17 28:0"),
+    (181, 0, 0, "27 S 11 17 28:0 16 28:0"),
+    (182, 0, 0, "27 S a"),
+    (182, 0, 0, "27 S 8:2 a b"),
+    (182, 0, 0, "27 S 27 S 7:2 a b"),
+    (182, 0, 0, "7:2 27 S a 27 S b"),
+    (183, 0, 0, "27 S 10 28:0 s"),
+    (183, 0, 0, "27 S 10 28:0 28:0"),
+    (183, 0, 0, "27 S 10 s p"),
+    (183, 0, 0, "27 S 10 s s"),
+    (183, 0, 0, "27 S 7:1 10 s 28:0"),
+    (183, 0, 0, "10 s s"),
 ];
 
 #[test]
@@ -327,7 +361,162 @@ fn what_is_no_instance_is_refused_and_stays() {
     }
 }
 
-/// The numbers of document 01, "The rules by number".
+/// Rule, place, a term with bodies, what it becomes. All but the last five need
+/// the type of a part that names a basis bound around it.
+const INSIDE: [(u16, u16, &str, &str); 22] = [
+    (43, 2, "27 S 19 5 16 28:0", "27 S 12 S"),
+    (43, 4, "27 S 27 T 19 5 16 28:0", "27 S 27 T 12 T"),
+    (43, 4, "27 S 27 T 19 5 16 28:1", "27 S 27 T 12 S"),
+    (43, 2, "27 T 19 5 16 4 s 28:0", "27 T 12 2 S T"),
+    (43, 2, "27 S 19 5 27 T 19 10 28:0 t 16 28:1", "27 S 12 S"),
+    (43, 8, "20:2 kS 27 2 S T 27 U 19 5 22 24 kS 17 28:1 16 28:1", "20:2 kS 27 2 S T 27 U 12 S"),
+    (45, 2, "27 S 19 5 17 28:0", "27 S 13 S"),
+    (47, 2, "27 S 19 5 24 16 28:0 bT", "27 S 14 S T"),
+    (84, 2, "27 S 21 12 T 16 28:0", "27 S 12 2 T S"),
+    (85, 2, "27 S 21 16 28:0 12 T", "27 S 12 2 S T"),
+    (87, 2, "27 S 21 13 T 17 28:0", "27 S 13 2 T S"),
+    (88, 2, "27 S 21 17 28:0 13 T", "27 S 13 2 S T"),
+    (140, 2, "27 T 24 12 S 17 28:0", "27 T 14 S T"),
+    (141, 2, "27 S 24 16 28:0 13 T", "27 S 14 S T"),
+    (150, 2, "27 T 25 14 S T 24 16 28:0 bU", "27 T 14 S U"),
+    (151, 2, "27 T 25 24 kS 17 28:0 14 T U", "27 T 14 S U"),
+    (101, 2, "27 S 22 24 16 28:0 bT 12 T", "27 S 12 S"),
+    (33, 2, "27 S 10 28:0 28:0", "27 S 6"),
+    (181, 2, "27 S 27 S 24 16 28:0 17 28:0", "27 S 15 S"),
+    (183, 2, "27 S 27 S 10 28:1 28:0", "27 S 6"),
+    (183, 2, "27 S 27 2 S T 10 4 28:1 t 28:0", "27 S 6"),
+    (182, 2, "27 S 27 S 7:2 10 28:1 28:0 a", "27 S 7:2 27 S 10 28:1 28:0 27 S a"),
+];
+
+#[test]
+fn rules_hold_inside_bodies() {
+    for (rule, place, term, result) in INSIDE {
+        let got = stepped(Step { rule, place, i: 0, j: 0 }, &read(term));
+        assert_eq!(got, (0, tokens(&read(result))), "rule {rule} at {place} of {term}");
+    }
+    // The same places, no instances: another kind, or another sum's basis.
+    let refused = [
+        (43, 2, "27 S 19 5 17 28:0"),
+        (45, 2, "27 S 19 5 16 28:0"),
+        (47, 2, "27 S 19 5 16 28:0"),
+        (33, 4, "27 S 27 S 10 28:0 28:1"),
+        (181, 2, "27 S 27 S 24 16 28:1 17 28:0"),
+        (181, 2, "27 S 27 S 24 16 28:1 17 28:1"),
+        (181, 0, "27 S 27 S 24 16 28:1 17 28:1"),
+        (183, 2, "27 S 27 S 10 28:0 28:1"),
+        (183, 2, "27 S 27 S 10 28:1 28:1"),
+        (183, 0, "27 S 27 S 10 28:0 28:1"),
+    ];
+    for (rule, place, term) in refused {
+        let term = read(term);
+        let got = stepped(Step { rule, place, i: 0, j: 0 }, &term);
+        assert_eq!(got, (22, tokens(&term)), "rule {rule} at {place}");
+    }
+}
+
+/// A term with bound bases, the code of its typing and its place.
+const BOUND: [(&str, u8, usize); 26] = [
+    ("28:0", 13, 0),
+    ("16 28:0", 13, 1),
+    ("27 S 16 28:0", 0, 0),
+    ("27 S 16 28:1", 13, 3),
+    ("27 S 16 28:255", 13, 3),
+    ("27 S 27 T 16 28:1", 0, 0),
+    ("27 S 27 T 16 28:2", 13, 5),
+    // An index is not in the body.
+    ("27 28:0 5", 13, 1),
+    ("27 S 27 28:0 5", 10, 2),
+    ("27 S 27 28:1 5", 13, 3),
+    ("20:2 16 28:0 27 S 16 28:0", 13, 2),
+    ("20:2 27 S 16 28:0 16 28:0", 13, 6),
+    // The lowest place counts, and comes before every untyped part.
+    ("20:2 20:2 a kS 20:2 16 28:0 16 28:1", 13, 6),
+    ("20:2 20:2 a kS 27 S 16 28:0", 10, 1),
+    // The body is a term, the first child an index.
+    ("27 S 28:0", 10, 0),
+    ("27 S S", 10, 0),
+    ("27 S s", 10, 0),
+    ("27 s a", 10, 0),
+    ("27 5 6", 10, 0),
+    ("27 5 16 28:0", 10, 3),
+    ("27 s 16 28:0", 10, 3),
+    ("27 5 27 S 16 28:0", 10, 0),
+    ("27 5 27 S 16 28:1", 10, 5),
+    ("27 27 S a 16 28:0", 10, 5),
+    // A sum in the first child of another is not in its body.
+    ("27 27 S 16 28:0 a", 10, 0),
+    ("27 27 S 16 28:1 a", 13, 4),
+];
+
+/// The code of a term's typing and its place.
+fn typed(term: &str) -> (u8, usize) {
+    let mut slice = read(term);
+    let length = slice.len();
+    slice.resize(WORDS, 0);
+    let answer = typing(&declared(), &slice, length);
+    (answer.code, answer.at)
+}
+
+#[test]
+fn which_sum_binds_a_basis() {
+    for (term, code, at) in BOUND {
+        assert_eq!(typed(term), (code, at), "{term}");
+    }
+}
+
+#[test]
+fn eight_bodies_are_nested_at_most() {
+    for (sums, expected) in [(8, (0, 0)), (9, (13, 16)), (10, (13, 16))] {
+        let term = format!("{}16 28:0", "27 S ".repeat(sums));
+        assert_eq!(typed(&term), expected, "{sums} sums");
+    }
+    // A sum in the first child of the eighth stands in seven bodies.
+    for (sums, expected) in [(7, (10, 14)), (8, (13, 16))] {
+        let term = format!("{}27 27 S 5 a", "27 S ".repeat(sums));
+        assert_eq!(typed(&term), expected, "{sums} sums");
+    }
+}
+
+/// What a term stands for under a choice of two dimensions for S and three for
+/// T: s is 1, and the entries of SS are 1, 2, 3, 4.
+fn entries(term: &str) -> Vec<i128> {
+    let declared = declared();
+    let dimensions = vec![2, 3, 1, 1];
+    let mut variables = Vec::new();
+    for variable in &declared.variables {
+        let (rows, columns) = shape(variable.letter, &variable.words, &dimensions).unwrap();
+        let mut k = 0;
+        let next = |_, _| {
+            k += 1;
+            Some(Gauss { re: k, im: 0 })
+        };
+        variables.push(Matrix::new(rows, columns, next).unwrap());
+    }
+    let choice = Choice { dimensions, bases: vec![1, 0, 2, 0, 0], variables };
+    let found = meaning(&declared, &choice, &read(term)).expect("a small matrix");
+    found.entries.iter().map(|entry| entry.re).collect()
+}
+
+#[test]
+fn a_sum_runs_over_all_indices() {
+    // The dimension, where the body does not look at the running index.
+    assert_eq!(entries("27 S 6"), [2]);
+    assert_eq!(entries("27 2 S T 6"), [6]);
+    assert_eq!(entries("27 S 27 T 6"), [6]);
+    assert_eq!(entries("27 T 16 28:0"), [1, 1, 1]);
+    assert_eq!(entries("27 S 24 16 28:0 17 28:0"), [1, 0, 0, 1]);
+    assert_eq!(entries("27 S 10 s 28:0"), [1]);
+    assert_eq!(entries("27 S 27 S 10 28:0 28:1"), [2]);
+    // The trace 1 + 4, and all elements of it.
+    assert_eq!(entries("27 S 11 17 28:0 22 SS 16 28:0"), [5]);
+    assert_eq!(entries("27 S 27 S 11 17 28:1 22 SS 16 28:0"), [10]);
+    // Which of two is which: rows 1 to 2 of S, columns 1 to 3 of T.
+    assert_eq!(entries("27 S 27 T 19 11 17 28:1 22 ST 16 28:0 16 28:1"), [6, 15]);
+    assert_eq!(entries("27 S 27 T 19 11 17 28:1 22 ST 16 28:0 16 28:0"), [5, 7, 9]);
+    assert_eq!(entries("27 S 16 4 28:0 t"), [0, 0, 1, 0, 0, 1]);
+}
+
+/// The numbers of document 01, "The rules by number", and of change request 1.
 #[test]
 fn the_numbers_are_those_of_the_paper() {
     let spans: [(&str, u16, &[&str]); 12] = [
@@ -357,6 +546,7 @@ fn the_numbers_are_those_of_the_paper() {
         expected.extend((first..).zip(ends.iter().map(|end| format!("{stem}{end}"))));
     }
     expected.push((170, "SWAP".to_string()));
+    expected.extend((180..).zip((0..4).map(|k| format!("SUM{k}"))));
     let table: Vec<(u16, String)> =
         RULES.iter().map(|rule| (rule.number, rule.name.to_string())).collect();
     assert_eq!(table, expected);
@@ -444,7 +634,7 @@ fn wide_and_deep_parts() {
 
 #[test]
 fn words_behind_a_part_do_not_count() {
-    for behind in [&[0x0000][..], &[0x1B00, 0x0500], &[0x0900], &[0x0700], &[0x0900, 0x0500]] {
+    for behind in [&[0x0000][..], &[0x1D00, 0x0500], &[0x0900], &[0x0700], &[0x0900, 0x0500]] {
         for deep in [1, 2, 64, 65, 300] {
             assert_part(&[&chain(deep), behind].concat(), 0, deep, deep);
         }
@@ -482,11 +672,11 @@ fn where_no_whole_part_begins_the_answer_is_empty() {
         (&[0x0900, 0x0500], usize::MAX / 2 + 1),
         // The head is unknown, by its number or by a low byte.
         (&[0x0000], 0),
-        (&[0x1B00, 0x0500], 0),
+        (&[0x1D00, 0x0500], 0),
         (&[0xFFFF], 0),
         (&[0x0501], 0),
         (&[0x0901, 0x0500], 0),
-        (&[0x0900, 0x1B00, 0x0500], 0),
+        (&[0x0900, 0x1D00, 0x0500], 0),
         (&[0x0702, 0x0500, 0x0000], 0),
         // n is 0.
         (&[0x0700], 0),

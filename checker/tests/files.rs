@@ -8,7 +8,7 @@ use checker::matrix::meaning;
 use checker::replay::{replay, Answer};
 use checker::step::{single, Step};
 use checker::typing::typing;
-use checker::words::{Side, WORDS};
+use checker::words::{head, Side, BOUND, WORDS};
 
 struct Run {
     answer: Answer,
@@ -32,7 +32,8 @@ fn filled(words: &[u16]) -> Vec<u16> {
 #[test]
 fn accepted_derivations_have_equal_matrices() {
     let mut gen = Gen::new(common::seed());
-    let (mut steps, mut compared) = (0, 0);
+    let (mut steps, mut compared, mut summed) = (0, 0, 0);
+    let mut of_sums = [0; 4];
     for _ in 0..2_000 {
         gen.declare();
         let length = gen.rng.within(0, 30);
@@ -44,6 +45,11 @@ fn accepted_derivations_have_equal_matrices() {
         assert_eq!(left, right);
         assert_eq!(run.left, run.right);
         steps += length;
+        for (_, step) in &derivation.steps {
+            if let 180..=183 = step.rule {
+                of_sums[usize::from(step.rule - 180)] += 1;
+            }
+        }
 
         // Starts and common end stand for the same matrix.
         for largest in [3, 2, 1] {
@@ -54,12 +60,14 @@ fn accepted_derivations_have_equal_matrices() {
                 assert_eq!(one, two);
                 assert_eq!(one, three);
                 compared += 1;
+                summed += usize::from(derivation.left.iter().any(|&word| head(word) == BOUND));
                 break;
             }
         }
     }
     println!("{steps} steps; matrices compared for {compared} of 2000 derivations");
-    assert!(compared > 1_800);
+    println!("{summed} of them with bound bases; steps of 180 to 183: {of_sums:?}");
+    assert!(compared > 1_800 && summed > 300 && of_sums.iter().all(|&count| count > 20));
 }
 
 #[test]
@@ -134,7 +142,7 @@ fn check_form(file: &[u8], run: &Run) {
     match code {
         2 => assert_eq!((side, step, at), (0, 0, 0)),
         3..=9 => assert!(side == 0 && step == 0 && (1..=lines + 1).contains(&at)),
-        10 => assert!((1..=2).contains(&side) && step == 0 && at < WORDS),
+        10 | 13 => assert!((1..=2).contains(&side) && step == 0 && at < WORDS),
         11 => assert!((1..=2).contains(&side) && step == 0 && at == 0),
         12 => assert_eq!((side, step, at), (0, 0, 0)),
         20..=23 => assert!((1..=2).contains(&side) && (1..=1000).contains(&step)),
@@ -181,7 +189,7 @@ fn damaged_files_get_exactly_one_answer() {
         }
     }
     println!("100000 damaged files, answers by code: {codes:?}");
-    for code in [0, 3, 4, 5, 7, 8, 9, 10, 11, 12, 20, 21, 22, 30] {
+    for code in [0, 3, 4, 5, 7, 8, 9, 10, 11, 12, 13, 20, 21, 22, 30] {
         assert!(codes[code] > 0, "code {code} was met");
     }
 }
@@ -199,7 +207,7 @@ fn the_files_that_are_compared_meet_every_code() {
         codes[usize::from(run.answer.code)] += 1;
     }
     println!("answers by code: {codes:?}");
-    for code in [0, 3, 4, 5, 6, 7, 8, 9, 10, 11, 12, 20, 21, 22, 23, 30] {
+    for code in [0, 3, 4, 5, 6, 7, 8, 9, 10, 11, 12, 13, 20, 21, 22, 23, 30] {
         assert!(codes[code] > 0, "code {code} was met");
     }
 }

@@ -12,7 +12,10 @@ const TABLE: &str = include_str!("../../crates/rules/specs/Table.antt");
 /// The heads as the table names them, from 2; names stand in no rule.
 const NAMES: &str = "index-product - pair scalar-zero scalar-one scalar-sum scalar-product \
     conjugate delta dot zero-ket zero-bra zero-operator identity basis-ket basis-bra adjoint \
-    scale add tensor mulk mulb outer mulo";
+    scale add tensor mulk mulb outer mulo - big-sum bound-basis";
+
+/// The head of a bound basis, which the table writes with its number.
+const BOUND: u8 = 28;
 
 fn name(head: u8) -> &'static str {
     NAMES.split_whitespace().nth(usize::from(head - 2)).expect("a head of a rule")
@@ -24,7 +27,7 @@ fn letters(law: &Law) -> Vec<String> {
     let mut written = vec![String::new(); 8];
     let mut holes = 0;
     for item in law.left.get() {
-        if let Item::Part(slot) = *item {
+        if let Item::Part(slot) | Item::Apart(slot) = *item {
             let letter = &mut written[usize::from(slot)];
             if letter.is_empty() {
                 *letter = format!("# {holes}");
@@ -49,12 +52,13 @@ fn letters(law: &Law) -> Vec<String> {
 /// One side of a law as the table writes it.
 fn side<'i>(items: &mut impl Iterator<Item = &'i Item>, letters: &[String]) -> String {
     match *items.next().expect("a part") {
-        Item::Part(slot) => letters[usize::from(slot)].clone(),
+        Item::Part(slot) | Item::Apart(slot) => letters[usize::from(slot)].clone(),
         Item::Word(word) => {
             let count = children_of(word).expect("a known head");
             let children: Vec<String> = (0..count).map(|_| side(items, letters)).collect();
             if children.is_empty() {
-                return format!("{} ⟨⟩", name(head(word)));
+                let number = if head(word) == BOUND { format!(" {}", word % 256) } else { String::new() };
+                return format!("{}{number} ⟨⟩", name(head(word)));
             }
             format!("{} ⟨ {} ⟩", name(head(word)), children.join(" ∣ "))
         }
@@ -86,10 +90,12 @@ fn equation(law: &Law, number: u16) -> String {
     let left = side(&mut law.left.get().iter(), &letters);
     let right = side(&mut law.right.get().iter(), &letters);
     // Elsewhere the left side tells the kind of what a premise is about.
+    let apart = law.left.get().iter().any(|item| matches!(item, Item::Apart(_)));
     let kind = match (number, law.premise.as_ref().map(|premise| premise.kind)) {
         (43, Some(Kind::Ket)) => "a-ket ⇒ ",
         (45, Some(Kind::Bra)) => "a-bra ⇒ ",
         (47, Some(Kind::Operator)) => "an-operator ⇒ ",
+        _ if apart => "unused ⇒ ",
         _ => "",
     };
     format!("{kind}{left} ▷ {right}")
@@ -108,6 +114,7 @@ fn line(rule: &Rule) -> String {
             format!("collecting {} {}", summand(*i_scaled), summand(*j_scaled))
         }
         Way::Swap => "swapping".to_string(),
+        Way::SpreadBody => "distributing".to_string(),
     };
     format!("{} {{- {} -}} ∶ {text} ∷", rule.number, rule.name)
 }
@@ -120,7 +127,7 @@ fn the_proved_table_is_this_reading_of_the_rules() {
         .filter(|line| line.starts_with(|c: char| c.is_ascii_digit()))
         .collect();
     let here: Vec<String> = RULES.iter().map(line).collect();
-    assert_eq!(proved.len(), 118);
+    assert_eq!(proved.len(), RULES.len());
     for (proved, here) in proved.iter().zip(&here) {
         assert_eq!(proved, here);
     }

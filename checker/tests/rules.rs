@@ -5,7 +5,7 @@ mod common;
 
 use checker::gen::Gen;
 use checker::matrix::{meaning, Gauss};
-use checker::rules::{Out, RULES};
+use checker::rules::{Out, Spot, RULES};
 use checker::step::{single, Step};
 use checker::typing::typing;
 use checker::words::{children_of, part, parts, tokens, WORDS};
@@ -14,9 +14,9 @@ const INSTANCES: usize = 150;
 const CHOICES: usize = 2;
 
 /// Rules whose two sides are zero whatever stands in them.
-const ALWAYS_ZERO: [u16; 27] = [
+const ALWAYS_ZERO: [u16; 28] = [
     5, 10, 20, 21, 43, 44, 45, 46, 47, 48, 64, 67, 70, 84, 85, 87, 88, 90, 91, 100, 101, 120, 121,
-    140, 141, 150, 151,
+    140, 141, 150, 151, 180,
 ];
 
 #[test]
@@ -110,7 +110,8 @@ fn the_limits_are_those_of_the_whole_result() {
         let mut out = Out::new(&mut room);
         let old = part(&before, place).words;
         let (i, j) = (instance.i.into(), instance.j.into());
-        rule.apply(&gen.declared, old, i, j, &mut out).expect("an instance");
+        let spot = Spot { term: &before, place, part: old };
+        rule.apply(&gen.declared, spot, i, j, &mut out).expect("an instance");
         let new = out.done().expect("room for the result");
         let whole = [&before[..place], new, &before[place + old.len()..]].concat();
         let fits = whole.len() <= 4096 && depth(&whole) <= 64;

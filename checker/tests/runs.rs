@@ -14,7 +14,7 @@ const SEED: u64 = 1;
 const COUNT: usize = 10_000;
 
 /// The codes of a run.
-const CODES: [u8; 15] = [0, 1, 5, 6, 7, 8, 9, 10, 11, 12, 20, 21, 22, 23, 30];
+const CODES: [u8; 16] = [0, 1, 5, 6, 7, 8, 9, 10, 11, 12, 13, 20, 21, 22, 23, 30];
 
 /// Left and right.
 type Slices = [Vec<u16>; 2];
@@ -80,8 +80,8 @@ fn by_typing(case: &RunCase, slices: &Slices) -> Answer {
         _ if case.count > 1_000 => refused(6),
         _ if case.steps.len() / STEP_WORDS < case.count => refused(9),
         _ if sides(case).any(|side| side != 1 && side != 2) => refused(5),
-        (Typing { code: 10 | 11, at, .. }, _) => Answer { side: 1, at, ..refused(left.code) },
-        (_, Typing { code: 10 | 11, at, .. }) => Answer { side: 2, at, ..refused(right.code) },
+        (Typing { code: 10 | 11 | 13, at, .. }, _) => Answer { side: 1, at, ..refused(left.code) },
+        (_, Typing { code: 10 | 11 | 13, at, .. }) => Answer { side: 2, at, ..refused(right.code) },
         _ if left.found != right.found => refused(12),
         _ => refused(0),
     }

@@ -20,11 +20,11 @@ struct Tree {
 
 fn children_by_the_table(head: u16, a: u16) -> Option<u16> {
     match head {
-        1 | 3 | 26 => Some(0),
+        1 | 3 | 26 | 28 => Some(0),
         7 | 8 | 20 => (a > 0).then_some(a),
         5 | 6 => (a == 0).then_some(0),
         9 | 12 | 13 | 15 | 16 | 17 | 18 => (a == 0).then_some(1),
-        2 | 4 | 10 | 11 | 14 | 19 | 21..=25 => (a == 0).then_some(2),
+        2 | 4 | 10 | 11 | 14 | 19 | 21..=25 | 27 => (a == 0).then_some(2),
         _ => None,
     }
 }
@@ -47,9 +47,24 @@ impl Tree {
         1 + self.children.iter().map(Tree::depth).max().unwrap_or(0)
     }
 
-    fn all<'t>(&'t self, out: &mut Vec<&'t Tree>) {
-        out.push(self);
-        self.children.iter().for_each(|child| child.all(out));
+    /// All parts, each with the sums whose bodies hold it, innermost first.
+    fn all<'t>(&'t self, around: &[&'t Tree], out: &mut Vec<(&'t Tree, Vec<&'t Tree>)>) {
+        out.push((self, around.to_vec()));
+        for (k, child) in self.children.iter().enumerate() {
+            match (self.head, k) {
+                (27, 1) => child.all(&[&[self], around].concat(), out),
+                _ => child.all(around, out),
+            }
+        }
+    }
+}
+
+/// Code 13's causes.
+fn is_unbound(part: &Tree, around: &[&Tree]) -> bool {
+    match part.head {
+        27 => around.len() >= 8,
+        28 => usize::from(part.a) >= around.len(),
+        _ => false,
     }
 }
 
@@ -69,15 +84,23 @@ fn times(left: &[u16], right: &[u16]) -> Option<Vec<u16>> {
     (product.len() <= 63).then_some(product)
 }
 
-/// Figures 2 to 7 of source document 004, read off one by one.
-fn ty(declared: &Declarations, tree: &Tree) -> Option<Ty> {
+/// Figures 2 to 7 of source document 004 and change request 1, read off one by
+/// one. Around the part are the sums whose bodies hold it, innermost first.
+fn ty(declared: &Declarations, tree: &Tree, around: &[&Tree]) -> Option<Ty> {
     use Ty::*;
     let mut children = Vec::new();
-    for child in &tree.children {
-        children.push(ty(declared, child)?);
+    for (k, child) in tree.children.iter().enumerate() {
+        let inside = [&[tree], around].concat();
+        let around = if (tree.head, k) == (27, 1) { &inside } else { around };
+        children.push(ty(declared, child, around)?);
     }
     let a = usize::from(tree.a);
     match (tree.head, &children[..]) {
+        (27, [Index(_), x @ (Scalar | Ket(_) | Bra(_) | Operator(..))]) => Some(x.clone()),
+        (28, []) => match ty(declared, &around[a].children[0], &around[a + 1..]) {
+            Some(Index(s)) => Some(Basis(s)),
+            _ => None,
+        },
         (1, []) => Some(Index(vec![256 + tree.a])),
         (2, [Index(s), Index(t)]) => Some(Index(times(s, t)?)),
         (3, []) => Some(Basis(declared.bases[a].clone())),
@@ -143,8 +166,8 @@ fn expected(
         return refused(8, 0);
     };
     let mut all = Vec::new();
-    whole.all(&mut all);
-    let declared_names = all.iter().all(|part| match part.head {
+    whole.all(&[], &mut all);
+    let declared_names = all.iter().all(|(part, _)| match part.head {
         1 => usize::from(part.a) < declared.types,
         3 => usize::from(part.a) < declared.bases.len(),
         26 => usize::from(part.a) < declared.variables.len(),
@@ -153,11 +176,15 @@ fn expected(
     if !declared_names {
         return refused(8, 0);
     }
-    let untyped = all.iter().filter(|part| ty(declared, part).is_none());
-    if let Some(first) = untyped.min_by_key(|part| (part.end, usize::MAX - part.at)) {
+    let unbound = all.iter().filter(|(part, around)| is_unbound(part, around));
+    if let Some(lowest) = unbound.map(|(part, _)| part.at).min() {
+        return refused(13, lowest);
+    }
+    let untyped = all.iter().filter(|(part, around)| ty(declared, part, around).is_none());
+    if let Some((first, _)) = untyped.min_by_key(|(part, _)| (part.end, usize::MAX - part.at)) {
         return refused(10, first.at);
     }
-    match ty(declared, &whole) {
+    match ty(declared, &whole, &[]) {
         Some(Ty::Index(_) | Ty::Basis(_)) | None => refused(11, 0),
         Some(found) => (0, 0, length, whole.depth(), found),
     }
@@ -178,8 +205,8 @@ fn found(declared: &Declarations, slice: &[u16], length: usize) -> (u8, usize, u
 #[test]
 fn typing_is_as_the_paper_says() {
     let mut gen = Gen::new(common::seed());
-    let mut codes = [0; 12];
-    let mut deep_places = 0;
+    let mut codes = [0; 14];
+    let (mut deep_places, mut ninth, mut summed) = (0, 0, 0);
     for round in 0..40_000 {
         if round % 20 == 0 {
             gen.declare();
@@ -193,7 +220,7 @@ fn typing_is_as_the_paper_says() {
         let mut length = term.len();
         if gen.rng.once_in(10) {
             let place = gen.rng.below(term.len());
-            term[place] = gen.rng.draw() as u16 % (28 * 256);
+            term[place] = gen.rng.draw() as u16 % (30 * 256);
         }
         if gen.rng.once_in(20) {
             length = gen.rng.below(term.len() + 3);
@@ -207,12 +234,15 @@ fn typing_is_as_the_paper_says() {
         assert_eq!(got, expected(&gen.declared, &slice, length), "{}", tokens(&term));
         codes[usize::from(got.0)] += 1;
         deep_places += usize::from(got.0 == 10 && got.1 > 0);
+        ninth += usize::from(got.0 == 13 && term[got.1] / 256 == 27);
+        summed += usize::from(got.0 == 0 && term.iter().any(|&word| word / 256 == 28));
     }
     println!("answers by code: {codes:?}; {deep_places} places of code 10 past offset 0");
-    for code in [0, 8, 10, 11] {
+    println!("{ninth} ninth nestings; {summed} typed terms with bound bases");
+    for code in [0, 8, 10, 11, 13] {
         assert!(codes[code] > 100, "code {code} was met");
     }
-    assert!(deep_places > 1000);
+    assert!(deep_places > 1000 && ninth > 50 && summed > 1000);
 }
 
 #[test]
@@ -251,7 +281,8 @@ fn lookups_are_as_the_paper_says() {
                 .map(|_| match rng.below(12) {
                     0 => rng.draw() as u16,
                     1 => word(*rng.pick(&[7, 8, 20]), rng.below(4) as u8),
-                    2 => word(*rng.pick(&[1, 3, 26]), rng.draw() as u8),
+                    2 => word(*rng.pick(&[1, 3, 26, 28]), rng.draw() as u8),
+                    3 => word(27, 0),
                     _ => word(rng.within(2, 25) as u8, 0),
                 })
                 .collect()

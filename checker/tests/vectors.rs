@@ -32,10 +32,11 @@ fn stored_codes(sort: case::Sort) -> Vec<u8> {
 #[test]
 fn every_code_has_a_case() {
     // 1 of a replay is tested by a call.
-    let codes = [0, 2, 3, 4, 5, 6, 7, 8, 9, 10, 11, 12, 20, 21, 22, 23, 30];
+    let codes = [0, 2, 3, 4, 5, 6, 7, 8, 9, 10, 11, 12, 13, 20, 21, 22, 23, 30];
     assert_eq!(stored_codes(case::Sort::Replay), codes);
-    assert_eq!(stored_codes(case::Sort::Step), [0, 1, 7, 8, 10, 11, 20, 21, 22, 23]);
-    let codes = [0, 1, 5, 6, 7, 8, 9, 10, 11, 12, 20, 21, 22, 23, 30];
+    assert_eq!(stored_codes(case::Sort::Typing), [0, 7, 8, 10, 11, 13]);
+    assert_eq!(stored_codes(case::Sort::Step), [0, 1, 7, 8, 10, 11, 13, 20, 21, 22, 23]);
+    let codes = [0, 1, 5, 6, 7, 8, 9, 10, 11, 12, 13, 20, 21, 22, 23, 30];
     assert_eq!(stored_codes(case::Sort::Run), codes);
 }
 

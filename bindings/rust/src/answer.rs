@@ -64,6 +64,7 @@ pub enum Code {
     Untyped = 10,
     NoTerm = 11,
     TypesDiffer = 12,
+    Unbound = 13,
     NoRule = 20,
     NoPlace = 21,
     NoInstance = 22,
@@ -75,7 +76,7 @@ use Code::*;
 
 impl Code {
     /// Every code, in the order of the numbers.
-    pub const ALL: [Code; 18] = [
+    pub const ALL: [Code; 19] = [
         Accepted,
         WorkSize,
         TooLong,
@@ -89,6 +90,7 @@ impl Code {
         Untyped,
         NoTerm,
         TypesDiffer,
+        Unbound,
         NoRule,
         NoPlace,
         NoInstance,
@@ -106,7 +108,7 @@ impl Code {
         match self.number() {
             0 => Outcome::Accepted,
             1 => Outcome::Caller,
-            2..=12 => Outcome::Typist,
+            2..=13 => Outcome::Typist,
             _ => Outcome::Maker,
         }
     }
@@ -142,6 +144,7 @@ impl fmt::Display for Code {
             Untyped => "a part of the term has no type",
             NoTerm => "an index or a basis stands in the place of a term",
             TypesDiffer => "the two terms have different types",
+            Unbound => "a bound basis has no sum around it, or a ninth sum is nested",
             NoRule => "there is no rule of this number",
             NoPlace => "the place is not below the term's length",
             NoInstance => "the part there is no instance of the rule",
@@ -195,7 +198,7 @@ impl Answer {
             Accepted if self.step == 1 => format!("{code} after 1 step"),
             Accepted => format!("{code} after {} steps", self.step),
             EndsDiffer => format!("{code} from word {} on", self.at),
-            Untyped => format!("{code}{on}, at word {}", self.at),
+            Untyped | Unbound => format!("{code}{on}, at word {}", self.at),
             NoTerm => format!("{code}{on}"),
             _ if self.at > 0 => format!("line {}: {code}", self.at),
             _ => code.to_string(),
@@ -222,7 +225,7 @@ pub struct Stepped {
 impl fmt::Display for Stepped {
     fn fmt(&self, f: &mut fmt::Formatter<'_>) -> fmt::Result {
         match self.code {
-            Untyped => write!(f, "{}, at word {}", self.code, self.at),
+            Untyped | Unbound => write!(f, "{}, at word {}", self.code, self.at),
             code if code.is_of_a_step() => write!(f, "at word {}: {code}", self.at),
             code => write!(f, "{code}"),
         }
@@ -254,7 +257,7 @@ impl fmt::Display for Typing {
     fn fmt(&self, f: &mut fmt::Formatter<'_>) -> fmt::Result {
         match self.code {
             Accepted => write!(f, "a term of {} words, {} deep", self.length, self.depth),
-            Untyped => write!(f, "{}, at word {}", self.code, self.at),
+            Untyped | Unbound => write!(f, "{}, at word {}", self.code, self.at),
             code => write!(f, "{code}"),
         }
     }
@@ -288,6 +291,10 @@ mod tests {
             "a part of the term has no type on the right, at word 4"
         );
         assert_eq!(
+            Answer::of([13, 1, 0, 2, 0, 0]).to_string(),
+            "a bound basis has no sum around it, or a ninth sum is nested on the left, at word 2"
+        );
+        assert_eq!(
             Answer::of([2, 0, 0, 0, 0, 0]).to_string(),
             "the file has more than 65,536 bytes"
         );
@@ -298,7 +305,7 @@ mod tests {
         for code in Code::ALL {
             assert_eq!(Code::of(u64::from(code.number())), code);
         }
-        let outcomes = [0, 1, 2, 12, 20, 30].map(|n| Code::of(n).outcome());
+        let outcomes = [0, 1, 2, 13, 20, 30].map(|n| Code::of(n).outcome());
         use Outcome::*;
         assert_eq!(outcomes, [Accepted, Caller, Typist, Typist, Maker, Maker]);
     }

@@ -107,6 +107,7 @@ fn damages_by_the_typist() {
         ),
         ("right=16 3:0", "right=3:0", (11, 2, 0, 0)),
         ("right=16 3:0", "right=6", (12, 0, 0, 0)),
+        ("right=16 3:0", "right=16 28:0", (13, 2, 0, 1)),
     ];
     for (old, new, expected) in cases {
         let (answer, work) = damaged(old, new);
@@ -279,6 +280,38 @@ fn types_of_terms() {
 }
 
 #[test]
+fn sums_over_a_basis() {
+    // Σ |i⟩⟨i|, with the a-th bound basis for i
+    let projectors = |a| {
+        let (ket, bra, bound) = (word(16, 0), word(17, 0), word(28, a));
+        Term::of(&[word(27, 0), TYPE, word(24, 0), ket, bound, bra, bound])
+    };
+    let complete = by(181, 0);
+    let mut term = projectors(0);
+    let found = typing(&declarations(), &term);
+    assert_eq!(
+        (found.code, found.kind),
+        (Code::Accepted, Kind::Operator(vec![TYPE], vec![TYPE]))
+    );
+    assert_eq!(
+        step(&declarations(), &mut term, complete).code,
+        Code::Accepted
+    );
+    assert_eq!(term.words(), [word(15, 0), TYPE]);
+    let unbound = typing(&declarations(), &projectors(1));
+    assert_eq!((unbound.code, unbound.at), (Code::Unbound, 4));
+    let answer = step(&declarations(), &mut projectors(1), complete);
+    assert_eq!(
+        (answer.code, answer.at, answer.length),
+        (Code::Unbound, 4, 0)
+    );
+    assert_eq!(
+        answer.to_string(),
+        "a bound basis has no sum around it, or a ninth sum is nested, at word 4"
+    );
+}
+
+#[test]
 fn declarations_are_put_or_refused() {
     assert_eq!(Declarations::of_types(33), Err(Refused::Bad));
     let mut declared = Declarations::of_types(1).unwrap();
@@ -340,11 +373,20 @@ fn a_part_is_looked_up_with_its_depth() {
         .collect();
     assert_eq!(
         sizes,
-        [(6, 4), (3, 3), (2, 2), (1, 1), (2, 2), (1, 1), (0, 0), (0, 0)]
+        [
+            (6, 4),
+            (3, 3),
+            (2, 2),
+            (1, 1),
+            (2, 2),
+            (1, 1),
+            (0, 0),
+            (0, 0)
+        ]
     );
     assert_eq!(part(&LEFT, 1).words, &LEFT[1..4]);
     assert_eq!(part(&LEFT, usize::MAX).depth, 0);
-    assert_eq!(part(&[word(27, 3), TYPE], 0).depth, 0);
+    assert_eq!(part(&[word(27, 3), TYPE, word(5, 0)], 0).depth, 0);
     assert_eq!(part(&LEFT[..3], 0).depth, 0);
     assert_eq!(part(&[], 0).depth, 0);
 }

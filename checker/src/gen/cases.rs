@@ -37,6 +37,8 @@ impl Gen {
     /// in it, a word changed, a wrong length or a bad declaration.
     pub fn typing_case(&mut self) -> Vec<u8> {
         self.declare();
+        // A single term seldom comes to have a sum.
+        self.sums |= self.rng.once_in(3);
         let want = self.want();
         let fuel = self.rng.within(1, 4);
         let mut term = self.term(&want, fuel);
@@ -44,8 +46,9 @@ impl Gen {
             term = self.deepen(&want, &term).0;
         }
         let mut case = self.case(term);
-        match self.rng.below(8) {
+        match self.rng.below(9) {
             0..4 => self.mistype(&mut case.lent),
+            8 if self.sums => self.unbind(&mut case.lent),
             4 => self.misspell(&mut case.lent),
             5 if self.rng.once_in(2) => self.mistell(&mut case.lent),
             5 => self.misdeclare(&mut case.declared),
@@ -62,6 +65,12 @@ impl Gen {
     /// A part of another sort or size.
     pub(super) fn mistype(&mut self, lent: &mut Lent) {
         let words = self.misfit(&lent.words);
+        lent.hold(words);
+    }
+
+    /// A bound basis that has no sum, or sums nested too deep, most often.
+    pub(super) fn unbind(&mut self, lent: &mut Lent) {
+        let words = self.unbound(&lent.words);
         lent.hold(words);
     }
 
@@ -93,11 +102,17 @@ impl Gen {
         }
     }
 
-    /// The words with one part replaced by a part of any sort and size.
+    /// The words with one part replaced by a part of any sort and size, which
+    /// knows the bodies around it or, now and then, does not.
     pub fn misfit(&mut self, words: &[u16]) -> Vec<u16> {
         let place = self.rng.below(words.len());
         let end = part_end(words, place).unwrap_or(place + 1);
-        let other = match self.rng.below(6) {
+        if !self.rng.once_in(4) {
+            self.stand(words, place);
+        }
+        let other = match self.rng.below(8) {
+            6 if self.sums => vec![word(BOUND, *self.rng.pick(&[0, 0, 0, 1, 1, 2, 7, 8, 255]))],
+            7 if self.sums => self.nest(&words[place..end]),
             0 => self.index(),
             1 => {
                 let names = self.rng.within(28, 40);
@@ -110,7 +125,42 @@ impl Gen {
                 self.term(&want, 2)
             }
         };
+        self.bound.clear();
         [&words[..place], &other, &words[end..]].concat()
+    }
+
+    /// The words with a bound basis in the place of a basis or, now and then, of
+    /// an index; or with a part of them inside more bodies.
+    pub(super) fn unbound(&mut self, words: &[u16]) -> Vec<u16> {
+        let wanted: &[u8] = match self.rng.below(8) {
+            0 => &[TYPE, PRODUCT],
+            1..5 => &[BASIS, PAIR, BOUND],
+            _ => &[],
+        };
+        let fits = |&at: &usize| wanted.is_empty() || wanted.contains(&head(words[at]));
+        let places: Vec<usize> = (0..words.len()).filter(fits).collect();
+        if places.is_empty() {
+            return self.nest(words);
+        }
+        let place = *self.rng.pick(&places);
+        let end = part_end(words, place).unwrap_or(place + 1);
+        let other = match wanted {
+            [] => self.nest(&words[place..end]),
+            _ => vec![word(BOUND, *self.rng.pick(&[0, 1, 2, 8, 255]))],
+        };
+        [&words[..place], &other, &words[end..]].concat()
+    }
+
+    /// A part inside a few bodies more, or so many that one may be the ninth.
+    fn nest(&mut self, part: &[u16]) -> Vec<u16> {
+        let bodies = *self.rng.pick(&[1, 2, 6, 7, 8, 8, 9, 9]);
+        let mut out = Vec::new();
+        for _ in 0..bodies {
+            out.push(word(SUM, 0));
+            out.extend(self.middle());
+        }
+        out.extend(part);
+        out
     }
 
     /// A basis of an index or, where there is none, the index.
@@ -138,8 +188,8 @@ impl Gen {
     pub(super) fn any_word(&mut self) -> u16 {
         match self.rng.below(4) {
             0 => self.rng.draw() as u16,
-            1 => word(self.rng.below(28) as u8, self.rng.below(4) as u8),
-            _ => word(self.rng.below(28) as u8, 0),
+            1 => word(self.rng.below(30) as u8, self.rng.below(4) as u8),
+            _ => word(self.rng.below(30) as u8, 0),
         }
     }
 }

@@ -4,7 +4,7 @@ use super::Rng;
 use std::ops::Range;
 
 /// Values that stand at an edge of the form or just past it.
-const EDGES: [&str; 34] = [
+const EDGES: [&str; 40] = [
     "7:0",
     "7:256",
     "7:255",
@@ -16,7 +16,13 @@ const EDGES: [&str; 34] = [
     "65535",
     "65536",
     "27",
+    "27:0",
     "27:3",
+    "28",
+    "28:0",
+    "28:1",
+    "28:255",
+    "29:3",
     "0:0",
     "7",
     "1:32",

@@ -1,8 +1,8 @@
 //! Instances of a wanted rule.
 
-use super::terms::{adjoint, factors, tensor_factors, Want};
+use super::terms::{adjoint, factors, put_index, sum_head, tensor_factors, Want};
 use super::Gen;
-use crate::notation::{Item, Kind, Law, SLOTS};
+use crate::notation::{Item, Kind, Law, OWN, SLOTS};
 use crate::rules::{Rule, Way};
 use crate::words::*;
 use Want::{Bra, Ket, Operator, Scalar};
@@ -17,12 +17,25 @@ pub struct Instance {
 }
 
 impl Gen {
-    /// An instance of a rule.
+    /// An instance of a rule, which stands in the bodies that `wrap` closes.
     pub fn instance(&mut self, rule: &Rule) -> Option<Instance> {
+        self.open_bodies();
         match &rule.way {
             Way::Law(law) => (0..10_000).find_map(|_| self.lawful(law)),
+            Way::SpreadBody => Some(self.sum_of_a_sum()),
             way => Some(self.indexed(way)),
         }
+    }
+
+    fn sum_of_a_sum(&mut self) -> Instance {
+        let want = self.want();
+        let index = self.index_over(&want);
+        let mut words = Vec::new();
+        put_index(SUM, &index, &mut words);
+        self.bound.push(index);
+        self.counted(sum_head(&want), &want, 1, &mut words);
+        self.bound.pop();
+        Instance { want, words, i: 0, j: 0 }
     }
 
     fn lawful(&mut self, law: &Law) -> Option<Instance> {
@@ -92,7 +105,7 @@ impl Gen {
                 }
             }
             Way::Swap => i = self.rng.below(n - 1),
-            Way::Law(_) => {}
+            Way::Law(_) | Way::SpreadBody => {}
         }
         let words = [vec![word(head, n as u8)], children.concat()].concat();
         Instance { want, words, i: i as u16, j: j as u16 }
@@ -120,14 +133,16 @@ impl Build<'_> {
         let (&item, rest) = self.left.split_first()?;
         self.left = rest;
         match item {
-            Item::Part(slot) => {
+            Item::Part(slot) | Item::Apart(slot) => {
                 let slot = usize::from(slot);
                 if self.bound[slot].is_none() {
                     self.bound[slot] = Some(self.part(gen, slot, &hole)?);
                 }
-                out.extend(self.bound[slot].as_ref()?);
-                Some(())
+                let part = self.bound[slot].as_ref()?;
+                let fits = !matches!(item, Item::Apart(_)) || !part.contains(&OWN);
+                fits.then(|| out.extend(part))
             }
+            Item::Word(w) if head(w) == SUM => self.sum_over(gen, hole, out),
             Item::Each { head, .. } => {
                 let Hole::Term(want) = hole else {
                     return None;
@@ -147,6 +162,20 @@ impl Build<'_> {
                 Some(())
             }
         }
+    }
+
+    /// A sum over a basis, and its body inside it.
+    fn sum_over(&mut self, gen: &mut Gen, hole: Hole, out: &mut Vec<u16>) -> Option<()> {
+        let Hole::Term(want) = hole else {
+            return None;
+        };
+        out.push(word(SUM, 0));
+        let index = gen.index_over(&want);
+        self.put(gen, Hole::Index(index.clone()), out)?;
+        gen.bound.push(index);
+        let done = self.put(gen, Hole::Term(want), out);
+        gen.bound.pop();
+        done
     }
 
     fn part(&self, gen: &mut Gen, slot: usize, hole: &Hole) -> Option<Vec<u16>> {
@@ -173,7 +202,7 @@ impl Build<'_> {
 /// What the children of a word must be for it to fit a hole.
 fn holes(gen: &mut Gen, w: u16, hole: Hole) -> Option<Vec<Hole>> {
     let term = Hole::Term;
-    let middle = gen.index();
+    let middle = gen.middle();
     Some(match (head(w), hole) {
         (ZERO | ONE, Hole::Term(Scalar)) => vec![],
         (ADDS | MULS, Hole::Term(Scalar)) => (0..low(w)).map(|_| term(Scalar)).collect(),
@@ -193,6 +222,7 @@ fn holes(gen: &mut Gen, w: u16, hole: Hole) -> Option<Vec<Hole>> {
         }
         (KET, Hole::Term(Ket(index))) => vec![Hole::Basis(index)],
         (BRA, Hole::Term(Bra(index))) => vec![Hole::Basis(index)],
+        (BOUND, Hole::Basis(index)) if gen.bound.last() == Some(&index) => vec![],
         (PAIR, Hole::Basis(index)) => {
             let (left, right) = factors(&index)?;
             vec![Hole::Basis(left), Hole::Basis(right)]

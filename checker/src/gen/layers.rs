@@ -33,17 +33,38 @@ impl Gen {
         [vec![word(SCR, 0)], ones(words - 1 - leaf.len()), leaf].concat()
     }
 
-    /// Puts a part into a larger typed term: its type, its words, and where
-    /// the part now begins.
+    /// Opens a few bodies, in which the part that is made next stands, and
+    /// leaves room for one more.
+    pub(super) fn open_bodies(&mut self) {
+        self.bound.clear();
+        let most = match self.rng.below(16) {
+            _ if !self.sums => 0,
+            0 => BODIES - 1,
+            _ => 2,
+        };
+        for _ in 0..self.rng.within(0, most) {
+            let index = self.middle();
+            self.bound.push(index);
+        }
+    }
+
+    /// Puts a part into a larger typed term, and closes the bodies that were
+    /// opened for it: the type, the words, and where the part now begins.
     pub fn wrap(&mut self, want: &Want, part: &[u16]) -> (Want, Vec<u16>, usize) {
         let (mut want, mut words, mut place) = (want.clone(), part.to_vec(), 0);
-        for _ in 0..self.rng.below(3) {
-            let (around, before, behind) = self.layer(&want);
-            place += before.len();
-            words = [before, words, behind].concat();
-            want = around;
+        loop {
+            for _ in 0..self.rng.below(3) {
+                let (around, before, behind) = self.layer(&want);
+                place += before.len();
+                words = [before, words, behind].concat();
+                want = around;
+            }
+            let Some(index) = self.bound.pop() else {
+                return (want, words, place);
+            };
+            place += 1 + index.len();
+            words = [vec![word(SUM, 0)], index, words].concat();
         }
-        (want, words, place)
     }
 
     /// One layer around a part: the new type, the words before and behind.

@@ -2,12 +2,12 @@
 
 use super::terms::Want;
 use super::Gen;
-use crate::decl::Declarations;
+use crate::bodies::Around;
 use crate::lent::Lent;
-use crate::notation::{Item, Law, SLOTS};
+use crate::notation::{Item, Law, OWN, SLOTS};
 use crate::rules::{by_number, Rule, Way, RULES};
 use crate::step::Step;
-use crate::typing::{type_of, Kind};
+use crate::typing::{type_around, Kind};
 use crate::words::*;
 
 impl Gen {
@@ -37,7 +37,7 @@ impl Gen {
     fn any_rule(&mut self, rule: u16) -> u16 {
         match self.rng.below(3) {
             0 => rule + 256,
-            1 => self.rng.below(180) as u16,
+            1 => self.rng.below(190) as u16,
             _ => self.rng.draw() as u16,
         }
     }
@@ -79,12 +79,30 @@ impl Gen {
         let wanted = wanted(words, *step);
         let counted = form(head(words[usize::from(step.place)])) == Form::Count;
         match self.rng.below(6) {
+            0..3 if matches!(step.rule, 181 | 183) => self.rebind(words, step.place.into()),
             0 if counted => self.recount(words, step.place.into()),
             1 | 2 if counted => leave_one(words, step),
             _ if wanted.is_empty() => self.recount(words, step.place.into()),
             _ => {
                 let at = *self.rng.pick(&wanted);
                 self.exchange(words, at);
+            }
+        }
+    }
+
+    /// For 181 and 183, whose bodies have two children: a bound basis of one sum
+    /// further out, the children exchanged, or the second one twice.
+    fn rebind(&mut self, words: &mut Vec<u16>, place: usize) {
+        let body = children(words, place)[1];
+        let end = part(words, body).words.len() + body;
+        let second = children(words, body)[1];
+        let own: Vec<usize> = (body..end).filter(|&at| words[at] == OWN).collect();
+        match self.rng.below(3) {
+            0 => words[*self.rng.pick(&own)] += 1,
+            1 => words[body + 1..end].rotate_left(second - body - 1),
+            _ => {
+                let again = words[second..end].to_vec();
+                words.splice(body + 1..second, again);
             }
         }
     }
@@ -107,29 +125,48 @@ impl Gen {
     /// Half of the time it begins with another word: the others can differ late.
     pub(super) fn exchange(&mut self, words: &mut Vec<u16>, at: usize) {
         let old = part(words, at).words.to_vec();
+        self.stand(words, at);
         let early = self.rng.once_in(2);
         let differs = |new: &Vec<u16>| if early { new[0] != old[0] } else { *new != old };
         let new = (0..10).find_map(|_| self.alike(&old).filter(differs));
         words.splice(at..at + old.len(), new.unwrap_or_else(|| old.clone()));
+        self.bound.clear();
+    }
+
+    /// Opens the bodies in which an offset stands.
+    pub(super) fn stand(&mut self, words: &[u16], at: usize) {
+        self.bound = Around::of(words, at).indices().map(<[u16]>::to_vec).collect();
     }
 
     /// A part of the same sort; nothing for an index, which is its own sort.
     fn alike(&mut self, part: &[u16]) -> Option<Vec<u16>> {
         match head(part[0]) {
             TYPE | PRODUCT => None,
-            BASIS | PAIR => {
+            BASIS | PAIR | BOUND => {
                 let ket = [&[word(KET, 0)], part].concat();
-                let Want::Ket(index) = want_of(&self.declared, &ket)? else {
+                let Want::Ket(index) = self.want_of(&ket)? else {
                     return None;
                 };
                 let mut out = Vec::new();
                 self.basis(&index, &mut out).then_some(out)
             }
             _ => {
-                let want = want_of(&self.declared, part)?;
+                let want = self.want_of(part)?;
                 Some(self.term(&want, 1))
             }
         }
+    }
+
+    /// The type of a part that stands in the open bodies.
+    fn want_of(&self, part: &[u16]) -> Option<Want> {
+        let found = type_around(&self.declared, Around::over(&self.bound), part).ok()?;
+        let first = found.first().to_vec();
+        Some(match found.kind {
+            Kind::Scalar => Want::Scalar,
+            Kind::Ket(_) => Want::Ket(first),
+            Kind::Bra(_) => Want::Bra(first),
+            Kind::Operator(..) => Want::Operator(first, found.second().to_vec()),
+        })
     }
 }
 
@@ -161,6 +198,8 @@ fn wanted(words: &[u16], step: Step) -> Vec<usize> {
             out.extend(j_scaled.then(|| scaled(j)));
             out
         }
+        // The body.
+        Some(Way::SpreadBody) => vec![child(1)],
         Some(_) => vec![child(step.i)],
     }
 }
@@ -177,6 +216,7 @@ fn wanted_by_law(law: &Law, words: &[u16], place: usize) -> Vec<usize> {
                 let again = std::mem::replace(&mut met[usize::from(slot)], true);
                 (again, part(words, at).words.len())
             }
+            Item::Apart(_) => (true, part(words, at).words.len()),
         };
         out.extend(more.then_some(at));
         at += length;
@@ -193,15 +233,4 @@ fn children(words: &[u16], at: usize) -> Vec<usize> {
         begin += child.len();
     }
     out
-}
-
-fn want_of(declared: &Declarations, part: &[u16]) -> Option<Want> {
-    let found = type_of(declared, part).ok()?;
-    let first = found.first().to_vec();
-    Some(match found.kind {
-        Kind::Scalar => Want::Scalar,
-        Kind::Ket(_) => Want::Ket(first),
-        Kind::Bra(_) => Want::Bra(first),
-        Kind::Operator(..) => Want::Operator(first, found.second().to_vec()),
-    })
 }

@@ -4,7 +4,7 @@
 
 use super::cases::lent_text;
 use super::damage::damaged;
-use super::terms::sum_head;
+use super::terms::{put_index, sum_head};
 use super::walks::{declared_text, Derivation};
 use super::Gen;
 use crate::file::STEPS;
@@ -54,15 +54,20 @@ impl Gen {
     }
 
     /// A file: of a short derivation that is accepted, or of one as a run case
-    /// has it, now and then with another right side. Half of them are damaged.
+    /// has it, now and then with another side. Half of them are damaged.
     pub fn replay_case(&mut self) -> Vec<u8> {
         let file = if self.rng.once_in(2) {
             self.accepted(30)
         } else {
             let mut derivation = self.good_or_bad();
-            if self.rng.once_in(20) {
-                let want = self.want();
-                derivation.right = self.term(&want, 2);
+            match self.rng.below(20) {
+                0 => {
+                    let want = self.want();
+                    derivation.right = self.term(&want, 2);
+                }
+                1 => derivation.left = self.unbound(&derivation.left),
+                2 => derivation.right = self.unbound(&derivation.right),
+                _ => {}
             }
             self.file(&derivation)
         };
@@ -110,19 +115,28 @@ impl Gen {
         self.meeting(words, &steps, joined)
     }
 
-    /// Hundreds of swaps in a sum of up to 255 children and thousands of words.
+    /// Hundreds of swaps in a sum of up to 255 children and thousands of words,
+    /// which may be a body.
     fn swaps(&mut self) -> Derivation {
         let want = self.want();
         let total = self.rng.within(10, 3_600);
+        let mut around = Vec::new();
+        if self.sums {
+            let index = self.index_over(&want);
+            put_index(SUM, &index, &mut around);
+            self.bound.push(index);
+        }
         let (mut children, mut n) = (Vec::new(), 0);
         while n < 2 || n < CHILDREN && children.len() < total {
             self.put(&want, 3, &mut children);
             n += 1;
         }
-        let start = [vec![word(sum_head(&want), n as u8)], children].concat();
+        self.bound.clear();
+        let place = around.len();
+        let start = [around, vec![word(sum_head(&want), n as u8)], children].concat();
         let on_left = self.rng.within(100, STEPS);
         let on_right = self.rng.within(0, on_left).min(STEPS - on_left);
-        let steps: Vec<Step> = (0..on_left).map(|_| self.swap(0, n)).collect();
+        let steps: Vec<Step> = (0..on_left).map(|_| self.swap(place, n)).collect();
         self.meeting(start, &steps, on_left - on_right)
     }
 

@@ -118,9 +118,9 @@ impl Gen {
         (self.crowded(head), Step { rule, place: 0, i: 0, j: 0 })
     }
 
-    /// What is refused with 1, 7, 8, 10 or 11.
+    /// What is refused with 1, 7, 8, 10, 11 or 13.
     pub(super) fn refuse(&mut self, declared: &mut Declarations, lent: &mut Lent) {
-        match self.rng.below(8) {
+        match self.rng.below(9) {
             0 => lent.size = *self.rng.pick(&[0, 1, lent.words.len(), 4095, 4097, 5000]),
             1 => self.misdeclare(declared),
             2 => self.misspell(lent),
@@ -129,6 +129,7 @@ impl Gen {
             // Too deep, which is refused before the type is looked at.
             5 => lent.hold(deepened(&Want::Scalar, &lent.words, DEPTH + 1).0),
             6 => self.mistype(lent),
+            7 => self.unbind(lent),
             _ => {
                 let words = self.basis_or_index();
                 lent.hold(words);

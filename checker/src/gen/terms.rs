@@ -2,6 +2,7 @@
 
 use super::Gen;
 use crate::decl::{Letter, Variable};
+use crate::notation::OWN;
 use crate::words::*;
 
 /// The type a term is wanted to have.
@@ -118,6 +119,9 @@ impl Gen {
             return self.leaf(want, out);
         }
         let fuel = fuel - 1;
+        if self.sums && self.bound.len() < BODIES && self.rng.once_in(4) {
+            return self.sum_over(want, fuel, out);
+        }
         match self.rng.below(10) {
             0 | 1 => self.sum_of(want, fuel, out),
             2 if *want == Scalar => {
@@ -140,7 +144,7 @@ impl Gen {
                 }
             }
             _ => {
-                let middle = self.index();
+                let middle = self.middle();
                 match want.clone() {
                     Scalar => self.two(DOT, &Bra(middle.clone()), &Ket(middle), fuel, out),
                     Ket(s) => {
@@ -159,6 +163,53 @@ impl Gen {
                 }
             }
         }
+    }
+
+    /// An index; in a body often one that a sum around it runs over.
+    pub(super) fn middle(&mut self) -> Vec<u16> {
+        if self.bound.is_empty() || self.rng.once_in(3) {
+            return self.index();
+        }
+        self.rng.pick(&self.bound).clone()
+    }
+
+    /// An index to sum a term over: often one of its type.
+    pub(super) fn index_over(&mut self, want: &Want) -> Vec<u16> {
+        match want {
+            Ket(index) | Bra(index) | Operator(index, _) if !self.rng.once_in(3) => index.clone(),
+            _ => self.middle(),
+        }
+    }
+
+    /// A sum over a basis.
+    fn sum_over(&mut self, want: &Want, fuel: usize, out: &mut Vec<u16>) {
+        let index = self.index_over(want);
+        put_index(SUM, &index, out);
+        self.bound.push(index);
+        self.body(want, fuel, out);
+        self.bound.pop();
+    }
+
+    /// The body of a sum over a basis, often one that a rule is about.
+    fn body(&mut self, want: &Want, fuel: usize, out: &mut Vec<u16>) {
+        let index = self.bound.last().cloned().unwrap_or_default();
+        let start = out.len();
+        match (want, self.rng.below(5)) {
+            (Scalar, 0) => return out.push(word(ZERO, 0)),
+            (Scalar, 1) => {
+                out.push(word(DELTA, 0));
+                if self.basis(&index, out) {
+                    return out.push(OWN);
+                }
+            }
+            (Operator(rows, columns), 0..3) if *rows == index && *columns == index => {
+                return out.extend([word(OUTER, 0), word(KET, 0), OWN, word(BRA, 0), OWN]);
+            }
+            (_, 3) => return self.sum_of(want, fuel, out),
+            _ => {}
+        }
+        out.truncate(start);
+        self.put(want, fuel, out);
     }
 
     fn two(&mut self, head: u8, left: &Want, right: &Want, fuel: usize, out: &mut Vec<u16>) {
@@ -181,7 +232,9 @@ impl Gen {
 
     fn leaf(&mut self, want: &Want, out: &mut Vec<u16>) {
         if !self.rng.once_in(12) {
-            if self.rng.once_in(3) && self.named(want, out) {
+            // In a body most often, so that it uses its basis.
+            let of_nine = if self.bound.is_empty() { 3 } else { 7 };
+            if self.rng.below(9) < of_nine && self.named(want, out) {
                 return;
             }
             if let Some(a) = self.variable(want) {
@@ -208,12 +261,13 @@ impl Gen {
         }
     }
 
-    /// A ket or bra of a basis, a delta, or an identity, where there is one.
+    /// A ket or bra of a basis, a delta, and an identity or, in a body, a ket times
+    /// a bra, where there is one.
     fn named(&mut self, want: &Want, out: &mut Vec<u16>) -> bool {
         let start = out.len();
         let good = match want {
             Scalar => {
-                let index = self.index();
+                let index = self.middle();
                 out.push(word(DELTA, 0));
                 self.basis(&index, out) && self.basis(&index, out)
             }
@@ -224,6 +278,12 @@ impl Gen {
             Bra(index) => {
                 out.push(word(BRA, 0));
                 self.basis(index, out)
+            }
+            Operator(rows, columns) if !self.bound.is_empty() => {
+                out.extend([word(OUTER, 0), word(KET, 0)]);
+                let ket = self.basis(rows, out);
+                out.push(word(BRA, 0));
+                ket && self.basis(columns, out)
             }
             Operator(rows, columns) => {
                 put_index(IDENTITY, rows, out);
@@ -236,10 +296,22 @@ impl Gen {
         good
     }
 
-    /// A basis of an index, where one is declared or can be paired.
+    /// The bases of an index that are declared or bound.
+    fn fitting(&self, index: &[u16]) -> Vec<u16> {
+        let names = (0..).zip(&self.declared.bases).map(|(a, of)| (word(BASIS, a), of));
+        let bound = (0..).zip(self.bound.iter().rev()).map(|(a, of)| (word(BOUND, a), of));
+        // Twice, since there are more names.
+        names
+            .chain(bound.clone())
+            .chain(bound)
+            .filter(|(_, of)| *of == index)
+            .map(|(basis, _)| basis)
+            .collect()
+    }
+
+    /// A basis of an index, where one is declared, bound or can be paired.
     pub(super) fn basis(&mut self, index: &[u16], out: &mut Vec<u16>) -> bool {
-        let fitting: Vec<usize> =
-            (0..self.declared.bases.len()).filter(|&a| self.declared.bases[a] == index).collect();
+        let fitting = self.fitting(index);
         match factors(index) {
             Some((left, right)) if fitting.is_empty() || self.rng.once_in(2) => {
                 out.push(word(PAIR, 0));
@@ -247,7 +319,7 @@ impl Gen {
             }
             _ if fitting.is_empty() => false,
             _ => {
-                out.push(word(BASIS, *self.rng.pick(&fitting) as u8));
+                out.push(*self.rng.pick(&fitting));
                 true
             }
         }
@@ -279,7 +351,7 @@ pub(super) fn sum_head(want: &Want) -> u8 {
     }
 }
 
-fn put_index(head: u8, index: &[u16], out: &mut Vec<u16>) {
+pub(super) fn put_index(head: u8, index: &[u16], out: &mut Vec<u16>) {
     out.push(word(head, 0));
     out.extend(index);
 }

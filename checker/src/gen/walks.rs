@@ -2,7 +2,7 @@
 
 use super::Gen;
 use crate::decl::Declarations;
-use crate::rules::{Out, Way, RULES};
+use crate::rules::{Out, Spot, Way, RULES};
 use crate::step::{rewrite, Step};
 use crate::words::*;
 
@@ -28,7 +28,8 @@ impl Gen {
             for rule in RULES.iter().filter(|rule| rule.begins_with(head(part[0]))) {
                 let mut attempt = |i: usize, j: usize| {
                     let mut out = Out::new(&mut scratch);
-                    if rule.apply(&self.declared, part, i, j, &mut out).is_some() {
+                    let spot = Spot { term: words, place, part };
+                    if rule.apply(&self.declared, spot, i, j, &mut out).is_some() {
                         found.push(Step {
                             rule: rule.number,
                             place: place as u16,
@@ -38,7 +39,7 @@ impl Gen {
                     }
                 };
                 match rule.way {
-                    Way::Law(_) => attempt(0, 0),
+                    Way::Law(_) | Way::SpreadBody => attempt(0, 0),
                     Way::Collect { .. } => {
                         for j in 1..n {
                             (0..j).for_each(|i| attempt(i, j));

@@ -8,6 +8,7 @@ pub mod Alike
 pub mod Shapes
 pub mod Linear
 pub mod Products
+pub mod Ranges
 pub mod Scalars
 pub mod Kronecker
 pub mod Combined

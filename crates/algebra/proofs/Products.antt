@@ -69,7 +69,7 @@ module _ {R : Type 0} {𝓐 : Arithmetic R} (𝓡 : StarSemiring 𝓐) where
       ∙ ap (λ n. sum 𝓐 n (λ k. 𝓐 .conj (B .entry k i) ⊙ 𝓐 .conj (A .entry j k))) e
 
   -- ---- a delta as a factor picks one summand
-  pick : (n s : ℕ) (f : ℕ → R) → s < n → sum 𝓐 n (λ k. kronecker-delta 𝓐 k s ⊙ f k) ≡ f s
+  pub pick : (n s : ℕ) (f : ℕ → R) → s < n → sum 𝓐 n (λ k. kronecker-delta 𝓐 k s ⊙ f k) ≡ f s
   pick n s f h =
       sum-single 𝓡 n s (λ k. kronecker-delta 𝓐 k s ⊙ f k) h (λ k l d. rw (delta-differ 𝓡 k s d) (S.zero-mul 𝓡 (f k)))
       ∙ rw (delta-same 𝓡 s) (S.one-mul 𝓡 (f s))

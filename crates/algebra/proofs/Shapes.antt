@@ -1,8 +1,8 @@
 -- The shapes of what the operations make.
 use mathlib.Core.Path.{_≡_, refl, sym, _∙_}
-use Prim.Native.Nat.{ℕ, _*_}
+use Prim.Native.Nat.{ℕ, _*_, _≤_, _<_}
 use Rattle.algebra.specs.Semirings.{Arithmetic}
-use Rattle.algebra.specs.Matrices.{Matrix, Shape, zeros, identity, unit-column, unit-row, scalar, add, scale, mul, adjoint, kronecker}
+use Rattle.algebra.specs.Matrices.{Matrix, Shape, zeros, identity, unit-column, unit-row, scalar, add, scale, mul, adjoint, kronecker, sum-matrices}
 
 module _ {R : Type 0} {A B : Matrix R} {m n k : ℕ} where
   pub same-rows : Shape A m n → Shape B m k → A .rows ≡ B .rows
@@ -55,3 +55,8 @@ module _ {R : Type 0} (𝓐 : Arithmetic R) where
   pub shape-kronecker : {A B : Matrix R} {m n k l : ℕ} → Shape A m n → Shape B k l → Shape (kronecker 𝓐 A B) (m * k) (n * l)
   unfolding kronecker
   shape-kronecker a b = record { rows = cc (a .rows, b .rows); columns = cc (a .columns, b .columns) }
+
+  -- the first matrix gives the shape, so there must be one
+  pub shape-sum-matrices : {n r c : ℕ} {f : ℕ → Matrix R} → 1 ≤ n → ((k : ℕ) → k < n → Shape (f k) r c) → Shape (sum-matrices 𝓐 n f) r c
+  unfolding sum-matrices
+  shape-sum-matrices h s = record { rows = s 0 h .rows; columns = s 0 h .columns }

@@ -71,3 +71,7 @@ module _ {R : Type 0} (𝓐 : Arithmetic R) where
         columns = A .columns * B .columns;
         entry = λ i j. 𝓐 .mul (A .entry (i / B .rows) (j / B .columns)) (B .entry (i % B .rows) (j % B .columns));
       }
+
+  -- 02, CR 1: "the sum of its body over all indices of its dimension": of n matrices of one shape
+  unfoldable pub sum-matrices : ℕ → (ℕ → Matrix R) → Matrix R
+  sum-matrices n f = record { rows = f 0 .rows; columns = f 0 .columns; entry = λ i j. sum 𝓐 n λ k. f k .entry i j }

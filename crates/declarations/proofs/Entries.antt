@@ -18,8 +18,8 @@ use Rattle.term.specs.Parts.{parse, first, part, treeIn}
 use Rattle.term.specs.Terms.{maxIndex, maxNames}
 use Rattle.term.proofs.Parsing.{accepted, parse-node}
 use Rattle.term.proofs.Scan.{part-front}
-use Rattle.types.specs.Sorts.{scalar, ket, bra, operator, index, Context, countsOf, Short}
-use Rattle.types.specs.Rules.{_⊢_∶_, type-var, base-prod, Index, Proper, IsType, WellFormed}
+use Rattle.types.specs.Sorts.{scalar, ket, bra, operator, index, IsType, Context, countsOf, Short}
+use Rattle.types.specs.Rules.{_⊢_∶_, type-var, base-prod, Index, Proper, WellFormed}
 use Rattle.declarations.specs.Declarations.{size, counted, indexWord, indexWords, indexIn, typeIn, basisAt, variableAt, basisIn, variableIn, contextIn, namesIn, goodIndex, isIndex, isVariable, goodBasis, goodVariable, goodDeclarations}
 
 -- ---- the words of an index, one after the other

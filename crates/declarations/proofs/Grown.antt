@@ -1,5 +1,5 @@
 -- The context after a put: the new name stands behind those that were there, and these declare what they did.
-use mathlib.Core.Path.{_≡_}
+use mathlib.Core.Path.{_≡_, refl}
 use mathlib.Core.Bool.{true}
 use mathlib.Core.List.{List, [], _∷_, _++_}
 use Prim.Native.Nat.{ℕ}
@@ -17,16 +17,16 @@ use Rattle.declarations.proofs.Kept.{basis-tree, variable-type, basis-k
 
 -- ---- a context with one name more
 abbrev pub withBasis : Context → Tree → Context
-withBasis Γ σ = record { types = Γ .types; bases = Γ .bases ++ σ ∷ []; variables = Γ .variables }
+withBasis Γ σ = record { types = Γ .types; bases = Γ .bases ++ σ ∷ []; variables = Γ .variables; bound = Γ .bound }
 
 abbrev pub withVariable : Context → Sort → Context
-withVariable Γ S = record { types = Γ .types; bases = Γ .bases; variables = Γ .variables ++ S ∷ [] }
+withVariable Γ S = record { types = Γ .types; bases = Γ .bases; variables = Γ .variables ++ S ∷ []; bound = Γ .bound }
 
-context-same : {Γ Δ : Context} → Γ .types ≡ Δ .types → Γ .bases ≡ Δ .bases → Γ .variables ≡ Δ .variables → Γ ≡ Δ
-context-same p q r = λ i. record { types = p i; bases = q i; variables = r i }
+context-same : {Γ Δ : Context} → Γ .types ≡ Δ .types → Γ .bases ≡ Δ .bases → Γ .variables ≡ Δ .variables → Γ .bound ≡ Δ .bound → Γ ≡ Δ
+context-same p q r s = λ i. record { types = p i; bases = q i; variables = r i; bound = s i }
 
 -- ---- the contexts
-pub started-context : (ds : List ℕ) (types : ℕ) → length ds ≡ size → contextIn (started ds types) ≡ record { types = types; bases = []; variables = [] }
+pub started-context : (ds : List ℕ) (types : ℕ) → length ds ≡ size → contextIn (started ds types) ≡ record { types = types; bases = []; variables = []; bound = [] }
 unfolding contextIn
 started-context ds types l =
     rw (started-types ds types l, started-none ds types l 1 (omega arith) (omega arith), started-none ds types l 2 (omega arith) (omega arith))
@@ -37,7 +37,7 @@ unfolding contextIn
 basis-context ds index e r f =
     let k = basis-put-kept ds index e r f in
     let bases = upTo-more _ (basis-kept e k) (basis-tree (basis-put-new ds index e r f)) in
-    context-same (k .types) (rw (k .bases, add-one) bases) (rw (k .variables) (upTo-same _ (variable-kept e k)))
+    context-same (k .types) (rw (k .bases, add-one) bases) (rw (k .variables) (upTo-same _ (variable-kept e k))) refl
 
 pub variable-context : (ds : List ℕ) (kind : ℕ) (first second : List ℕ) → goodDeclarations ds ≡ true → room ds 2 ≡ Done → isVariable (getD ds 0 0) kind first second ≡ true
     → contextIn (variablePut ds kind first second) ≡ withVariable (contextIn ds) (typeIn kind (treeIn (parse first)) (treeIn (parse second)))
@@ -45,4 +45,4 @@ unfolding contextIn
 variable-context ds kind first second e r f =
     let k = variable-put-kept ds kind first second e r f in
     let variables = upTo-more _ (variable-kept e k) (variable-type (variable-put-new ds kind first second e r f)) in
-    context-same (k .types) (rw (k .bases) (upTo-same _ (basis-kept e k))) (rw (k .variables, add-one) variables)
+    context-same (k .types) (rw (k .bases) (upTo-same _ (basis-kept e k))) (rw (k .variables, add-one) variables) refl

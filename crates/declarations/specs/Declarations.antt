@@ -49,7 +49,7 @@ variableIn ds a =
 -- what the declarations declare
 unfoldable pub contextIn : List ℕ → Context
 unfolding upTo basisIn variableIn
-contextIn ds = record { types = getD ds 0 0; bases = upTo (getD ds 1 0) (basisIn ds); variables = upTo (getD ds 2 0) (variableIn ds) }
+contextIn ds = record { types = getD ds 0 0; bases = upTo (getD ds 1 0) (basisIn ds); variables = upTo (getD ds 2 0) (variableIn ds); bound = [] }
 
 -- ---- when they are good. 01, code 7: "a declaration is not exactly the indices wanted, or breaks a limit or a name"
 -- a word of an index: a declared type name, or a product's head

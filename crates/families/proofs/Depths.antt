@@ -9,7 +9,7 @@ use Rattle.term.specs.Heads.{Label, scalar-zero, scalar-product}
 use Rattle.term.specs.Trees.{Tree, Forest, node, none, _▹_, _⧺_, count, depth, depth*}
 use Rattle.term.proofs.Extents.{depth*-⧺}
 use Rattle.types.specs.Sorts.{Context}
-use Rattle.rules.specs.Table.{Rule, _⇒_▷_, spreading, removing, absorbing, merging, collecting, swapping, ruleOf}
+use Rattle.rules.specs.Table.{Rule, _⇒_▷_, spreading, removing, absorbing, merging, collecting, swapping, distributing, ruleOf}
 use Rattle.rules.specs.Rewrite.{isHead, isChain, Opened, outside, opened, removeAt, absorbAt, mergeAt, swapAt, rewrite}
 use Rattle.rules.proofs.Opening.{At, too-far, there, at}
 use Rattle.rules.proofs.Matching.{no-answer, cond-some}
@@ -17,7 +17,7 @@ use Rattle.rulebook.specs.declared.Row.{Row}
 use Rattle.rulebook.specs.Code.Rows.{rowFor, rowOf}
 use Rattle.families.specs.Writing.{mayDeepen}
 use Rattle.families.proofs.Lines.{lined}
-use Rattle.families.specs.Code.Families.{Lined, an-equation, a-spreading, a-removing, an-absorbing, a-merging, a-collecting, a-swapping}
+use Rattle.families.specs.Code.Families.{deepensIn, Lined, an-equation, a-spreading, a-removing, an-absorbing, a-merging, a-collecting, a-swapping, a-distributing}
 
 true-false : {A : Type 0} → true ≡ false → A
 true-false e = absurd (let z : _≡_ {A = ℕ} 0 1 = cc in omega arith)
@@ -72,10 +72,11 @@ no-deeper absorbing h Γ i j (node m f) u e = at-child (eqb j 0 && isHead scalar
 no-deeper merging h Γ i j (node m f) u e = at-child (eqb j 0 && isChain m (count f)) (mergeAt m) refl (merged m) (at f i) e
 no-deeper (collecting x y) h Γ i j t u e = true-false h
 no-deeper swapping h Γ i j (node m f) u e = at-child (eqb j 0 && isChain m (count f)) (swapAt m) refl (swapped m) (at f i) e
+no-deeper distributing h Γ i j t u e = true-false h
 
 -- ---- by the family of a row
-deepens-by : {row : Row} {rule : Rule} → Lined row rule → (ltb (row .family) 3 || eqb (row .family) 6) ≡ mayDeepen (some rule)
-unfolding mayDeepen
+deepens-by : {row : Row} {rule : Rule} → Lined row rule → deepensIn (row .family) ≡ mayDeepen (some rule)
+unfolding mayDeepen deepensIn
 deepens-by (an-equation x) = rw x
 deepens-by (a-spreading x p q r s v) = rw x
 deepens-by (a-removing x p q) = rw x
@@ -83,14 +84,15 @@ deepens-by (an-absorbing x) = rw x
 deepens-by (a-merging x) = rw x
 deepens-by (a-collecting x p q) = rw x
 deepens-by (a-swapping x) = rw x
+deepens-by (a-distributing x) = rw x
 
-none-by : (n : ℕ) → ruleOf n ≡ refused → (ltb (rowOf n .family) 3 || eqb (rowOf n .family) 6) ≡ mayDeepen (ruleOf n)
-unfolding mayDeepen rowOf rowFor
+none-by : (n : ℕ) → ruleOf n ≡ refused → deepensIn (rowOf n .family) ≡ mayDeepen (ruleOf n)
+unfolding mayDeepen deepensIn rowOf rowFor
 none-by n e = rw e
 
-deepens-of : (n : ℕ) (o : Option Rule) → ruleOf n ≡ o → (ltb (rowOf n .family) 3 || eqb (rowOf n .family) 6) ≡ mayDeepen (ruleOf n)
+deepens-of : (n : ℕ) (o : Option Rule) → ruleOf n ≡ o → deepensIn (rowOf n .family) ≡ mayDeepen (ruleOf n)
 deepens-of n refused e = none-by n e
 deepens-of n (some rule) e = rw e (deepens-by (lined n rule (rowOf n) e refl))
 
-pub row-deepens : (n : ℕ) (row : Row) → row ≡ rowOf n → (ltb (row .family) 3 || eqb (row .family) 6) ≡ mayDeepen (ruleOf n)
+pub row-deepens : (n : ℕ) (row : Row) → row ≡ rowOf n → deepensIn (row .family) ≡ mayDeepen (ruleOf n)
 row-deepens n row e = rw e (deepens-of n (ruleOf n) refl)

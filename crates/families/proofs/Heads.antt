@@ -10,15 +10,14 @@ use lib.Dec.{eqb}
 use lib.ListN.{length, getD, List·getD-eq-default}
 use Rattle.words.specs.Listed.{allUpTo}
 use Rattle.words.proofs.Listed.{allUpTo-at}
-use Rattle.term.specs.Heads.{Label, type-name, basis-name, variable, index-product, pair, scalar-zero, scalar-one, scalar-sum, scalar-product, conjugate, delta, dot, zero-ket, zero-bra, zero-operator, identity, basis-ket, basis-bra, adjoint, scale, add, tensor, mulk, mulb, outer, mulo, Head, unknown, named, fixed, counted, heads, word, unread, labelled, reading, read}
+use Rattle.term.specs.Heads.{Label, type-name, basis-name, variable, index-product, pair, scalar-zero, scalar-one, scalar-sum, scalar-product, conjugate, delta, dot, zero-ket, zero-bra, zero-operator, identity, basis-ket, basis-bra, adjoint, scale, add, tensor, mulk, mulb, outer, mulo, big-sum, bound-basis, Head, unknown, named, fixed, counted, heads, word, unread, labelled, reading, read}
 use Rattle.term.specs.Trees.{Forest, node, count, Formed}
 use Rattle.term.proofs.Readings.{read-few}
 use Rattle.rules.specs.Instances.{Chain, scalar-sums, scalar-products, sums}
 use Rattle.rules.specs.Rewrite.{nameless, isHead, isChain}
-use Rattle.rules.proofs.Known.{is-head, head-is}
-use Rattle.rules.proofs.Decided.{either}
+use Rattle.rules.proofs.Known.{either, is-head, head-is}
 use Rattle.typebook.specs.Code.Lines.{rules, ruleAt, isSum}
-use Rattle.rulebook.specs.Code.Rows.{headOf}
+use Rattle.rulebook.specs.Code.Rows.{headNumber}
 use Rattle.families.specs.Code.Families.{chainWord}
 
 -- ---- the line of the table that a head's number picks is that head's
@@ -28,7 +27,7 @@ Line l (named f c) = ⊥
 Line l (fixed k c cs) = l ≡ k
 Line l (counted k c d) = l ≡ k
 
-line-of : (l : Label) → nameless l ≡ true → Line l (getD heads (headOf l) unknown)
+line-of : (l : Label) → nameless l ≡ true → Line l (getD heads (headNumber l) unknown)
 unfolding word heads
 line-of (type-name a) p = absurd (let z : _≡_ {A = ℕ} 0 1 = cc in omega arith)
 line-of (basis-name a) p = absurd (let z : _≡_ {A = ℕ} 0 1 = cc in omega arith)
@@ -56,6 +55,8 @@ line-of mulk p = refl
 line-of mulb p = refl
 line-of outer p = refl
 line-of mulo p = refl
+line-of big-sum p = refl
+line-of (bound-basis a) p = absurd (let z : _≡_ {A = ℕ} 0 1 = cc in omega arith)
 
 -- and reads as no other
 only-fixed : {l k m : Label} {n : ℕ} (j : ℕ) (b : Bool) → l ≡ k → cond b (labelled k j) unread ≡ labelled m n → l ≡ m
@@ -74,12 +75,12 @@ only-line (fixed k c cs) a x e = only-fixed (length cs) (eqb a 0) x e
 only-line (counted k c d) a x e = only-counted a (eqb a 0) x e
 
 -- ---- so a node whose word has the number of a head has that head
-pub same-head : (l m : Label) (f : Forest) → nameless l ≡ true → Formed (node m f) → word m (count f) / 256 ≡ headOf l → l ≡ m
+pub same-head : (l m : Label) (f : Forest) → nameless l ≡ true → Formed (node m f) → word m (count f) / 256 ≡ headNumber l → l ≡ m
 unfolding Formed read
-same-head l m f p h e = only-line (getD heads (headOf l) unknown) (word m (count f) % 256) (line-of l p) (rw e at (h .0))
+same-head l m f p h e = only-line (getD heads (headNumber l) unknown) (word m (count f) % 256) (line-of l p) (rw e at (h .0))
 
 -- and the other way round: the number of children stays in the lower byte
-head-number : (l : Label) (n : ℕ) → nameless l ≡ true → n ≤ 255 → word l n / 256 ≡ headOf l
+head-number : (l : Label) (n : ℕ) → nameless l ≡ true → n ≤ 255 → word l n / 256 ≡ headNumber l
 unfolding word
 head-number (type-name a) n p h = refl
 head-number (basis-name a) n p h = refl
@@ -107,6 +108,8 @@ head-number mulk n p h = refl
 head-number mulb n p h = refl
 head-number outer n p h = refl
 head-number mulo n p h = refl
+head-number big-sum n p h = refl
+head-number (bound-basis a) n p h = refl
 
 -- ---- the code's tests: of one head
 same-test : (a b : Bool) → (a ≡ true → b ≡ true) → (b ≡ true → a ≡ true) → a ≡ b
@@ -114,15 +117,15 @@ same-test true b x y = sym (x refl)
 same-test false true x y = y refl
 same-test false false x y = refl
 
-head-test : (l m : Label) (f : Forest) → nameless l ≡ true → Formed (node m f) → eqb (word m (count f) / 256) (headOf l) ≡ isHead l m (count f)
+head-test : (l m : Label) (f : Forest) → nameless l ≡ true → Formed (node m f) → eqb (word m (count f) / 256) (headNumber l) ≡ isHead l m (count f)
 unfolding Formed
 head-test l m f p h =
     let few = read-few (word m (count f)) m (count f) (h .0) in
-    same-test (eqb (word m (count f) / 256) (headOf l)) (isHead l m (count f))
+    same-test (eqb (word m (count f) / 256) (headNumber l)) (isHead l m (count f))
     (λ t. rw (← (same-head l m f p h (eqb-true _ _ t))) (is-head l (count f)))
-    (λ t. eq-eqb (word m (count f) / 256) (headOf l) (rw (← (head-is l m f p h t)) (head-number l (count f) p few)))
+    (λ t. eq-eqb (word m (count f) / 256) (headNumber l) (rw (← (head-is l m f p h t)) (head-number l (count f) p few)))
 
-pub other-head : (l m : Label) (f : Forest) → nameless l ≡ true → Formed (node m f) → word m (count f) / 256 ≢ headOf l → isHead l m (count f) ≡ false
+pub other-head : (l m : Label) (f : Forest) → nameless l ≡ true → Formed (node m f) → word m (count f) / 256 ≢ headNumber l → isHead l m (count f) ≡ false
 other-head l m f p h n = sym (head-test l m f p h) ∙ ne-eqb _ _ n
 
 -- ---- and of a chain: the heads of sums and products of many are 7, 8 and 20
@@ -137,8 +140,8 @@ same-bool false false e = refl
 
 pub sum-heads : (h : ℕ) → isSum h ≡ (eqb h 7 || (eqb h 8 || eqb h 20))
 unfolding ruleAt rules sumHead allUpTo
-sum-heads h = elim (decLt h 26) [
-  | yes l ↦ same-bool _ _ (allUpTo-at 26 (λ k. Bool·beq (isSum k) (sumHead k)) refl h l)
+sum-heads h = elim (decLt h 28) [
+  | yes l ↦ same-bool _ _ (allUpTo-at 28 (λ k. Bool·beq (isSum k) (sumHead k)) refl h l)
   | no l ↦ rw (List·getD-eq-default rules 0 {n = h} (omega (arith, l)), ne-eqb h 7 (λ z. omega (arith, l, z)), ne-eqb h 8 (λ z. omega (arith, l, z)), ne-eqb h 20 (λ z. omega (arith, l, z)))
 ]
 
@@ -154,7 +157,7 @@ chain-of m f h =
     (λ t. rw (← (same-head add m f refl h (eqb-true _ _ t))) sums))
 
 -- ---- a chain's word has its number and that of its children
-pub chain-word : {l : Label} → Chain l → (n : ℕ) → word l n ≡ headOf l * 256 + n
+pub chain-word : {l : Label} → Chain l → (n : ℕ) → word l n ≡ headNumber l * 256 + n
 unfolding word
 chain-word scalar-sums n = refl
 chain-word scalar-products n = refl

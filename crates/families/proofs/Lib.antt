@@ -18,6 +18,7 @@ mod Matched
 mod Collected
 mod Gathered
 pub mod Lines
+mod Distributed
 mod Dispatched
 pub mod Depths
 pub mod Theorems

@@ -9,15 +9,15 @@ use borrow.Author.Tests.{eqb-true, lt-ltb, le-ltb, ltb-true}
 use lib.Dec.{eqb, ltb}
 use Rattle.term.specs.Heads.{Label, scalar-zero, scalar-sum, scalar-product, add, word, read}
 use Rattle.term.specs.Trees.{Forest, node, none as no-tree, _▹_, count, Formed}
-use Rattle.rules.specs.Table.{Which, child, child-i, Rule, _⇒_▷_, spreading, removing, absorbing, merging, collecting, swapping, table, ruleOf}
+use Rattle.rules.specs.Table.{Which, child, child-i, Rule, _⇒_▷_, spreading, removing, absorbing, merging, collecting, swapping, distributing, table, ruleOf}
 use Rattle.rules.specs.Instances.{Chain, scalar-sums, scalar-products, sums}
 use Rattle.rules.specs.Rewrite.{nameless}
-use Rattle.rules.proofs.Decided.{either}
+use Rattle.rules.proofs.Known.{either}
 use Rattle.rules.proofs.Every.{rule-passes}
 use Rattle.rules.proofs.Good.{good, both, every-good}
 use Rattle.rulebook.specs.declared.Row.{Row}
-use Rattle.rulebook.specs.Code.Rows.{headOf, startIn, rowFor, rowOf}
-use Rattle.families.specs.Code.Families.{chainWord, Fixed, Lined, an-equation, a-spreading, a-removing, an-absorbing, a-merging, a-collecting, a-swapping}
+use Rattle.rulebook.specs.Code.Rows.{headNumber, startIn, rowFor, rowOf}
+use Rattle.families.specs.Code.Families.{chainWord, Fixed, Lined, an-equation, a-spreading, a-removing, an-absorbing, a-merging, a-collecting, a-swapping, a-distributing}
 use Rattle.families.specs.Writing.{isFamily}
 use Rattle.families.proofs.Heads.{same-head}
 
@@ -32,9 +32,9 @@ chain-label : (l : Label) → chainHead l ≡ true → Chain l
 unfolding chainHead leaf Formed read word count
 chain-label l e =
     let b = both (nameless l) (chainWord (word l 0)) e in
-    let is : (m : Label) → Formed (node m leaf) → eqb (headOf l) (word m 1 / 256) ≡ true → l ≡ m = λ m f h. same-head l m leaf (b .0) f (sym (eqb-true _ _ h)) in
-    either (eqb (headOf l) 7) _ (λ h. rw (is scalar-sum (refl, ((refl, tt), tt)) h) scalar-sums)
-    (either (eqb (headOf l) 8) _ (λ h. rw (is scalar-product (refl, ((refl, tt), tt)) h) scalar-products) (λ h. rw (is add (refl, ((refl, tt), tt)) h) sums)) (b .1)
+    let is : (m : Label) → Formed (node m leaf) → eqb (headNumber l) (word m 1 / 256) ≡ true → l ≡ m = λ m f h. same-head l m leaf (b .0) f (sym (eqb-true _ _ h)) in
+    either (eqb (headNumber l) 7) _ (λ h. rw (is scalar-sum (refl, ((refl, tt), tt)) h) scalar-sums)
+    (either (eqb (headNumber l) 8) _ (λ h. rw (is scalar-product (refl, ((refl, tt), tt)) h) scalar-products) (λ h. rw (is add (refl, ((refl, tt), tt)) h) sums)) (b .1)
 
 fixedChild : Which → Bool
 fixedChild (child k) = ltb k 2
@@ -53,6 +53,7 @@ familiar absorbing = true
 familiar merging = true
 familiar (collecting u v) = true
 familiar swapping = true
+familiar distributing = true
 
 every-familiar : (n : ℕ) (r : Rule) → ruleOf n ≡ some r → familiar r ≡ true
 unfolding familiar fixedChild chainHead word
@@ -83,6 +84,7 @@ lined n (collecting u v) row e h =
     let x = row-is n _ row e h in
     a-collecting (ap (λ (y : Row). y .family) x) (ap (λ (y : Row). y .a) x) (ap (λ (y : Row). y .b) x)
 lined n swapping row e h = a-swapping (ap (λ (y : Row). y .family) (row-is n _ row e h))
+lined n distributing row e h = a-distributing (ap (λ (y : Row). y .family) (row-is n _ row e h))
 
 -- and a number that is no rule's has a row of family 0, which no rule has
 no-line : (n : ℕ) → ruleOf n ≡ none → rowOf n .family ≡ 0
@@ -97,6 +99,7 @@ some-line (an-absorbing f) z = omega (arith, f, z)
 some-line (a-merging f) z = omega (arith, f, z)
 some-line (a-collecting f a b) z = omega (arith, f, z)
 some-line (a-swapping f) z = omega (arith, f, z)
+some-line (a-distributing f) z = omega (arith, f, z)
 
 -- ---- the rule of a row
 pub record Ruled (row : Row) (n : ℕ) : Type 0 where
@@ -128,6 +131,7 @@ family-test (an-absorbing f) = rw f
 family-test (a-merging f) = rw f
 family-test (a-collecting f a b) = rw f
 family-test (a-swapping f) = rw f
+family-test (a-distributing f) = rw f
 
 pub is-family : {row : Row} {r : Rule} → Lined row r → row .family ≢ 1 → isFamily r ≡ true
 is-family {row} l h = family-test l ∙ lt-ltb 1 (row .family) (omega (arith, some-line l, h))

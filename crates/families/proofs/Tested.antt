@@ -14,7 +14,7 @@ use Rattle.term.proofs.Parsing.{count-⧺}
 use Rattle.rules.specs.Instances.{Chain}
 use Rattle.rules.specs.Rewrite.{isHead, isChain, outside, open-at}
 use Rattle.families.specs.Code.Children.{kids}
-use Rattle.rulebook.specs.Code.Rows.{headOf}
+use Rattle.rulebook.specs.Code.Rows.{headNumber}
 use Rattle.families.specs.Code.Families.{chainWord, Named, Counted}
 use Rattle.families.proofs.Split.{Root, root, first-word, Split, parent-word, child-word, child-formed}
 use Rattle.families.proofs.Few.{formed-count}
@@ -66,11 +66,11 @@ module _ {ws : List ℕ} {i start end : ℕ} (s : Split ws i start end) where
   unfolding count
   children-count = omega (arith, count-⧺ (s .before) (node (s .label) (s .below) ▹ s .after), count-⧺ (s .before) (s .after))
 
-  pub chain-parent : {l : Label} → Chain l → l ≡ s .parent → getD ws 0 0 ≡ headOf l * 256 + (count (s .before ⧺ s .after) + 1)
+  pub chain-parent : {l : Label} → Chain l → l ≡ s .parent → getD ws 0 0 ≡ headNumber l * 256 + (count (s .before ⧺ s .after) + 1)
   chain-parent {l} k e = parent-word s ∙ rw (← e, children-count) (chain-word k (count (s .before ⧺ s .after) + 1))
 
   pub siblings-few : count (s .before ⧺ s .after) + 1 ≤ 255
   siblings-few = omega (arith, children-count, formed-count (s .parent) _ (s .formed))
 
-  pub chain-child : {l : Label} → Chain l → l ≡ s .label → getD ws start 0 ≡ headOf l * 256 + count (s .below)
+  pub chain-child : {l : Label} → Chain l → l ≡ s .label → getD ws start 0 ≡ headNumber l * 256 + count (s .below)
   chain-child k e = child-word s ∙ rw (← e) (chain-word k (count (s .below)))

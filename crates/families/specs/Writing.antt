@@ -9,7 +9,7 @@ use Rattle.words.specs.Words.{Added}
 use Rattle.term.specs.Trees.{Tree, Forest, none as no-tree, _▹_, words}
 use Rattle.term.specs.Parts.{parse, part, partDepth}
 use Rattle.types.specs.Sorts.{Context}
-use Rattle.rules.specs.Table.{Rule, _⇒_▷_, spreading, removing, absorbing, merging, collecting, swapping, ruleOf}
+use Rattle.rules.specs.Table.{Rule, _⇒_▷_, spreading, removing, absorbing, merging, collecting, swapping, distributing, ruleOf}
 use Rattle.rules.specs.Rewrite.{rewrite}
 use Rattle.rules.specs.Steps.{few}
 use Rattle.families.specs.declared.writing.Rewritten.{Rewritten}
@@ -24,6 +24,7 @@ isFamily absorbing = true
 isFamily merging = true
 isFamily (collecting u v) = true
 isFamily swapping = true
+isFamily distributing = true
 
 -- a rule of a family at the first of a row of parts
 unfoldable pub atFirst : Context → Option Rule → ℕ → ℕ → Forest → Option Tree
@@ -50,6 +51,7 @@ mayDeepen (some absorbing) = false
 mayDeepen (some merging) = false
 mayDeepen (some (collecting u v)) = true
 mayDeepen (some swapping) = false
+mayDeepen (some distributing) = true
 
 -- what is told of the part, as a lookup hands it back: how many words it has and, where the rule of the number may leave it deeper, how deep it is
 pub record Measures (n : ℕ) (ws : List ℕ) (r : Replaced) : Type 0 where

@@ -20,14 +20,13 @@ use term::parts::part_at;
 use term::parts::part_end;
 ghost use mathlib.Core.Path.{_≡_};
 ghost use mathlib.Core.Logic.{_≢_};
-ghost use mathlib.Core.Bool.{cond, _||_};
-ghost use lib.Dec.{ltb, eqb};
+ghost use mathlib.Core.Bool.{cond};
 ghost use lib.ListN.{length};
 ghost use Rattle.term.specs.Parts.{Whole, part, partDepth};
 ghost use Rattle.types.specs.Sorts.{Context};
 ghost use Rattle.rules.specs.Table.{Rule};
 ghost use Rattle.rulebook.specs.Code.Rows.{rowOf};
-ghost use Rattle.families.specs.Code.Families.{Does, Lined};
+ghost use Rattle.families.specs.Code.Families.{Does, Distributes, Lined, deepensIn};
 ghost use Rattle.families.specs.Writing.{Writes, Measures, written, familyOf};
 
 // Spreading over the child that the row names, and then `i` is to be 0, or over child `i`.
@@ -43,6 +42,21 @@ fn spread_by(ws: &[u16], row: Row, i: usize, out: &mut [u16]) -> Rewritten
         return refused(22);
     }
     spread(ws, row.a, which, row.c, row.d, out, 0)
+}
+
+// A sum over a basis spreads over its body: over one of scalars or, where it is none, over one of arrays. A refusal writes nothing.
+fn distribute(ws: &[u16], i: usize, out: &mut [u16]) -> Rewritten
+    requires { ⌜ Whole (now ws) ⌝ }
+    ensures { λ r. ⌜ Distributes (now (ws .entry)) (now (out .entry)) 0 (now (out .exit)) r i ⌝ }
+{
+    if i != 0 {
+        return refused(22);
+    }
+    let done = spread(ws, 27, 1, 7, 7, out, 0);
+    if done.code != 22 {
+        return done;
+    }
+    spread(ws, 27, 1, 20, 20, out, 0)
 }
 
 // The families with one index.
@@ -62,7 +76,10 @@ fn apply_family(ws: &[u16], row: Row, i: usize, out: &mut [u16]) -> Rewritten
     if row.family == 5 {
         return merge(ws, i, out, 0);
     }
-    swap(ws, i, out, 0)
+    if row.family == 7 {
+        return swap(ws, i, out, 0);
+    }
+    distribute(ws, i, out)
 }
 
 // What the rule of a number, with its row, makes of the part that is the first `end` of the words.
@@ -94,14 +111,17 @@ fn family_at(
     apply_family(part, row, i, out)
 }
 
-// Whether a rule of a family may leave a part deeper: one that removes, absorbs, merges or exchanges does not.
+// Whether a rule of a family may leave a part deeper: one that removes, absorbs, merges or exchanges does not, and the others spread, collect or distribute.
 fn may_deepen(family: u16) -> bool
-    ensures { λ r. ⌜ r ≡ (ltb family 3 || eqb family 6) ⌝ }
+    ensures { λ r. ⌜ r ≡ deepensIn family ⌝ }
 {
     if family < 3 {
         return true;
     }
-    family == 6
+    if family == 6 {
+        return true;
+    }
+    family == 8
 }
 
 // The size of a part, and its depth where that is asked for.

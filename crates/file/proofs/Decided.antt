@@ -6,7 +6,7 @@ use native.Mathlib.Omega.{arith}
 use lib.ListN.{length}
 use Rattle.types.specs.Sorts.{Sort}
 use Rattle.rules.specs.Steps.{Sides}
-use Rattle.lent.specs.Refusals.{Refused, wrong-size, bad-declarations, no-term, bad-steps, left-untyped, left-no-type, right-untyped, right-no-type, types-differ, Begun}
+use Rattle.lent.specs.Refusals.{Refused, wrong-size, bad-declarations, no-term, bad-steps, left-stray, left-untyped, left-no-type, right-stray, right-untyped, right-no-type, types-differ, Begun}
 use Rattle.lent.proofs.Judging.{not-both}
 use Rattle.format.specs.Files.{File, InOrder}
 use Rattle.format.specs.Kept.{declarationsOf, padded, stepsOf}
@@ -24,14 +24,16 @@ module _ (f : File) (o : InOrder f) where
   abbrev Begins : Sides → Sort → Type 0
   Begins = Begun (declarationsOf f) (padded (f .left)) (length (f .left)) (padded (f .right)) (length (f .right)) (stepsOf f) (length (f .steps))
 
-  refused-code : {c s k : ℕ} → Refuses c s k → (10 ≤ c) × (c ≤ 12)
+  refused-code : {c s k : ℕ} → Refuses c s k → (10 ≤ c) × (c ≤ 13)
   refused-code (wrong-size x) = absurd (x (side-held f o (f .left) (o .left) .1 .size, side-held f o (f .right) (o .right) .1 .size))
   refused-code (bad-declarations x e) = absurd (not-both e (side-held f o (f .left) (o .left) .1 .good))
   refused-code (no-term x g h) = absurd (h _ _ (side-held f o (f .left) (o .left) .1, side-held f o (f .right) (o .right) .1))
   refused-code (bad-steps x h) = absurd (h (steps-in-order f (o .few-steps)))
-  refused-code (left-untyped x a h k) = omega arith
+  refused-code (left-stray x a h) = omega arith
+  refused-code (left-untyped x a n h k) = omega arith
   refused-code (left-no-type x a d h) = omega arith
-  refused-code (right-untyped x a t h k) = omega arith
+  refused-code (right-stray x a t h) = omega arith
+  refused-code (right-untyped x a t n h k) = omega arith
   refused-code (right-no-type x a t d h) = omega arith
   refused-code (types-differ a h k x) = omega arith
 

@@ -1,5 +1,5 @@
 -- Demand 3: what the terms of a file stand for, and what the replay leaves of them.
-use mathlib.Core.Path.{_≡_, _∙_, ap}
+use mathlib.Core.Path.{_≡_, refl, _∙_, ap}
 use mathlib.Core.Bool.{true}
 use mathlib.Core.List.{List}
 use Prim.Native.Nat.{ℕ}
@@ -29,7 +29,8 @@ use Rattle.file.proofs.Replayed.{decided, answer-of, left-of, right-of}
 use Rattle.file.proofs.Accepting.{to-run}
 
 pub chooses-lent : (ds : List ℕ) → goodDeclarations ds ≡ true → EveryChoice gaussian (contextIn ds)
-chooses-lent ds e = M.chooses gaussian (contextIn ds) (well-formed ds e)
+unfolding contextIn
+chooses-lent ds e = M.chooses gaussian (contextIn ds) (well-formed ds e) refl
 
 pub chooses : (bytes : List ℕ) (f : File) → Written bytes f → EveryChoice gaussian (contextOf f)
 chooses bytes f w = rw (context f (w .order)) at (chooses-lent (declarationsOf f) (declared f (w .order .declared) .good))

@@ -6,8 +6,8 @@ use Prim.Native.Nat.{ℕ, _≤_}
 use lib.ListN.{length, replicate}
 use Rattle.term.specs.Trees.{Tree, words}
 use Rattle.term.specs.Terms.{maxWords, IsTerm}
-use Rattle.types.specs.Sorts.{Sort}
-use Rattle.types.specs.Rules.{_⊢_∶_, IsType}
+use Rattle.types.specs.Sorts.{Sort, IsType}
+use Rattle.types.specs.Rules.{_⊢_∶_}
 use Rattle.text.specs.Pieces.{Text}
 use Rattle.format.specs.Files.{File, namesOf, contextOf, Written}
 use Rattle.format.specs.Reading.{fault, readOf}
@@ -38,9 +38,10 @@ pub record Accepted (bytes : Text) : Type 0 where
   pub taken : AllTaken (contextOf file) start (file .steps) end
   pub same : end .left ≡ end .right
 
--- the codes that a file of the form can have: "10 no type", "11 a side is an index or a basis", "12 the two types differ"; 20 to 23; 30; 0
+-- the codes that a file of the form can have: "10 no type", "11 a side is an index or a basis", "12 the two types differ"; 02, CR 1: "13, a 28 with no such 27 around
+-- it, or a ninth nesting (at its 27)"; 20 to 23; 30; 0
 pub data LateCode : ℕ → Type 0 where
-  of-types : {c : ℕ} → 10 ≤ c → c ≤ 12 → LateCode c
+  of-types : {c : ℕ} → 10 ≤ c → c ≤ 13 → LateCode c
   of-step : {c : ℕ} → 20 ≤ c → c ≤ 23 → LateCode c
   of-ends : LateCode 30
   of-none : LateCode 0

@@ -59,7 +59,7 @@ room-is ds k e = let g = declarations ds e in rw (eq-eqb _ _ (g .long), le-leb _
 has-room : (ds : List ℕ) (k n : ℕ) → goodDeclarations ds ≡ true → getD ds k 0 ≡ n → n < maxNames → room ds k ≡ Done
 has-room ds k n e h l = room-is ds k e ∙ rw (h, ne-eqb n maxNames (λ z. omega arith))
 
-begun : (ds : List ℕ) (N : ℕ) → length ds ≡ size → N ≤ maxNames → Stands (started ds N) N 0 0 (record { types = N; bases = []; variables = [] })
+begun : (ds : List ℕ) (N : ℕ) → length ds ≡ size → N ≤ maxNames → Stands (started ds N) N 0 0 (record { types = N; bases = []; variables = []; bound = [] })
 begun ds N l h =
     record {
       good = started-good ds N l h;
@@ -102,7 +102,7 @@ same-names : {ds : List ℕ} {N b c v w : ℕ} {Γ Δ : Context} → Stands ds N
 same-names s p q r = record { good = s .good; types = s .types; bases = s .bases ∙ p; variables = s .variables ∙ q; context = s .context ∙ r }
 
 all-bases : {ds : List ℕ} {N b v : ℕ} {Γ : Context} (bs : List (List ℕ)) → Stands ds N b v Γ → b + length bs ≤ maxNames → allIndices N bs ≡ true
-    → Stands (putBases ds bs) N (b + length bs) v (record { types = Γ .types; bases = Γ .bases ++ map (λ i. treeIn (parse i)) bs; variables = Γ .variables })
+    → Stands (putBases ds bs) N (b + length bs) v (record { types = Γ .types; bases = Γ .bases ++ map (λ i. treeIn (parse i)) bs; variables = Γ .variables; bound = Γ .bound })
 unfolding putBases allIndices
 all-bases {Γ} [] s h e = same-names s (omega arith) refl (rw append-nil)
 all-bases {N} {Γ} (i ∷ bs) s h e =
@@ -111,7 +111,7 @@ all-bases {N} {Γ} (i ∷ bs) s h e =
 
 all-variables : {ds : List ℕ} {N b v : ℕ} {Γ : Context} (xs : List Variable) → Stands ds N b v Γ → v + length xs ≤ maxNames → allVariables N xs ≡ true
     → Stands (putVariables ds xs) N b (v + length xs)
-    (record { types = Γ .types; bases = Γ .bases; variables = Γ .variables ++ map (λ x. typeIn (x .kind) (treeIn (parse (x .first))) (treeIn (parse (x .second)))) xs })
+    (record { types = Γ .types; bases = Γ .bases; variables = Γ .variables ++ map (λ x. typeIn (x .kind) (treeIn (parse (x .first))) (treeIn (parse (x .second)))) xs; bound = Γ .bound })
 unfolding putVariables allVariables
 all-variables {Γ} [] s h e = same-names s refl (omega arith) (rw append-nil)
 all-variables {N} {Γ} (x ∷ xs) s h e =

@@ -141,4 +141,5 @@ contextOf f = record {
   types = f .types;
   bases = map (λ b. treeIn (parse b)) (f .bases);
   variables = map (λ v. typeIn (v .kind) (treeIn (parse (v .first))) (treeIn (parse (v .second)))) (f .variables);
+  bound = [];
 }

@@ -13,9 +13,10 @@ use Rattle.words.proofs.Runs.{same-words}
 use Rattle.term.specs.Parts.{parse, treeIn}
 use Rattle.term.specs.Terms.{maxWords}
 use Rattle.term.specs.Trees.{Tree, depth}
-use Rattle.types.specs.Sorts.{Sort, index, basis, scalar, ket, bra, operator}
-use Rattle.types.specs.Rules.{_⊢_∶_, IsType}
+use Rattle.types.specs.Sorts.{Sort, index, basis, scalar, ket, bra, operator, IsType}
+use Rattle.types.specs.Rules.{_⊢_∶_}
 use Rattle.types.specs.First.{HasSort, FirstUntyped}
+use Rattle.types.specs.Strays.{FirstStray, NoStray}
 use Rattle.types.specs.TypeOf as T
 use Rattle.types.proofs.Proper.{proper}
 use Rattle.declarations.specs.Declarations.{contextIn, goodDeclarations}
@@ -29,13 +30,14 @@ use Rattle.rules.specs.Steps.{Sides}
 use Rattle.lent.specs.declared.faults.Fault.{Fault}
 use Rattle.lent.specs.Lent.{stepsFault}
 use Rattle.lent.specs.Faults.{sameSizes, sameType, fault, typesFault, earlyCode, faultOf, faultIn}
-use Rattle.lent.specs.Refusals.{InOrder, Begun, Refused, wrong-size, bad-declarations, no-term, bad-steps, left-untyped, left-no-type, right-untyped, right-no-type, types-differ, Judged, found, none}
+use Rattle.lent.specs.Refusals.{InOrder, Begun, Refused, wrong-size, bad-declarations, no-term, bad-steps, left-stray, left-untyped, left-no-type, right-stray, right-untyped, right-no-type, types-differ, Judged, found, none}
 use Rattle.lent.specs.Statements.{Judges}
 use Rattle.lent.proofs.Tests.{fitting, in-order, of-type, answers-same, sorts-same}
 
 -- ---- one side: what typing says, by its code and place
 data Late (ds ws : List ℕ) (n : ℕ) (t : Tree) : ℕ → ℕ → Type 0 where
-  unsorted : {k : ℕ} → (HasSort (contextIn ds) t → ⊥) → FirstUntyped (contextIn ds) t k → Late ds ws n t 10 k
+  stray : {k : ℕ} → FirstStray (contextIn ds) t k → Late ds ws n t 13 k
+  unsorted : {k : ℕ} → NoStray (contextIn ds) t → (HasSort (contextIn ds) t → ⊥) → FirstUntyped (contextIn ds) t k → Late ds ws n t 10 k
   untyped : {S : Sort} → contextIn ds ⊢ t ∶ S → (IsType S → ⊥) → Late ds ws n t 11 0
   typed : {S : Sort} → TypedTerm ds ws n t S → Late ds ws n t 0 0
 
@@ -72,12 +74,14 @@ unfolding refuse
 side-of (Said.wrong-size h) = of-size h
 side-of (Said.bad-declarations h g) = of-declarations h g
 side-of (Said.no-term h g x) = of-term h g x
-side-of (Said.no-sort h x f) = late h (unsorted x f)
+side-of (Said.stray h f) = late h (stray f)
+side-of (Said.no-sort h s x f) = late h (unsorted s x f)
 side-of (Said.no-type h d x) = late h (untyped d x)
 side-of {n} (Said.a-type {t} {S} h) = rw (type-code n (depth t) S (h .isType), type-at n (depth t) S (h .isType)) (late (held-of h) (typed h))
 
 late-size : {ds ws : List ℕ} {n : ℕ} {t : Tree} {c k : ℕ} → Late ds ws n t c k → (c ≢ 1) × (c ≢ 7) × (c ≢ 8)
-late-size (unsorted x f) = (λ e. omega arith, λ e. omega arith, λ e. omega arith)
+late-size (stray f) = (λ e. omega arith, λ e. omega arith, λ e. omega arith)
+late-size (unsorted s x f) = (λ e. omega arith, λ e. omega arith, λ e. omega arith)
 late-size (untyped d x) = (λ e. omega arith, λ e. omega arith, λ e. omega arith)
 late-size (typed h) = (λ e. omega arith, λ e. omega arith, λ e. omega arith)
 
@@ -110,9 +114,11 @@ module _ (ds left : List ℕ) (n : ℕ) (right : List ℕ) (m : ℕ) (steps : Li
 
   types-by : {t u : Tree} {lc lk rc rk : ℕ} (same : Bool) → Agree same → InOrder steps count → HeldTerm ds left n t → HeldTerm ds right m u
       → Late ds left n t lc lk → Late ds right m u rc rk → View (late-fault lc lk rc rk same)
-  types-by same agree o h k (unsorted x f) r = found (left-untyped (h, k) o x f) (omega arith)
+  types-by same agree o h k (stray f) r = found (left-stray (h, k) o f) (omega arith)
+  types-by same agree o h k (unsorted s x f) r = found (left-untyped (h, k) o s x f) (omega arith)
   types-by same agree o h k (untyped d x) r = found (left-no-type (h, k) o d x) (omega arith)
-  types-by same agree o h k (typed a) (unsorted x f) = found (right-untyped (h, k) o a x f) (omega arith)
+  types-by same agree o h k (typed a) (stray f) = found (right-stray (h, k) o a f) (omega arith)
+  types-by same agree o h k (typed a) (unsorted s x f) = found (right-untyped (h, k) o a s x f) (omega arith)
   types-by same agree o h k (typed a) (untyped d x) = found (right-no-type (h, k) o a d x) (omega arith)
   types-by same agree o h k (typed a) (typed b) = same-by same agree o _ _ _ _ a b
 

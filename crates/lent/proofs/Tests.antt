@@ -15,8 +15,8 @@ use Rattle.words.proofs.Runs.{same-words-eq}
 use Rattle.term.specs.Parts.{parse, treeIn}
 use Rattle.term.specs.Trees.{Tree, words}
 use Rattle.term.proofs.Parsing.{parse-tree}
-use Rattle.types.specs.Sorts.{Sort, index, basis, scalar, ket, bra, operator, Context}
-use Rattle.types.specs.Rules.{_⊢_∶_, WellFormed, Proper, IsType}
+use Rattle.types.specs.Sorts.{Sort, index, basis, scalar, ket, bra, operator, IsType, Context}
+use Rattle.types.specs.Rules.{_⊢_∶_, WellFormed, Proper}
 use Rattle.types.specs.TypeOf as T
 use Rattle.types.proofs.Proper.{index-short, same-index}
 use Rattle.typing.specs.declared.terms.Sizes.{Sizes}

@@ -1,5 +1,5 @@
 -- What is wrong with what is lent, before the first step, as a function for the code to equal: the relation to believe is `Judged` of `Refusals`, and `Judges` of `Statements` says that the
--- fault is so. Document 01, "What comes out, by whose doing", codes 1 to 12.
+-- fault is so. Document 01, "What comes out, by whose doing", codes 1 to 12, and 02, CR 1, code 13.
 use mathlib.Core.Bool.{Bool, cond, _&&_, _||_}
 use mathlib.Core.List.{List}
 use Prim.Native.Nat.{ℕ}
@@ -23,7 +23,7 @@ sameType a b = sameSizes (sizesOf (a .kind)) (sizesOf (b .kind)) && (sameWords (
 abbrev pub fault : ℕ → ℕ → ℕ → F.Fault
 fault code side at = record { code = code; side = side; at = at }
 
--- 12 "the two types differ", after "left 10, 11, right 10, 11", the "side named"
+-- 12 "the two types differ", after "left 10, 11, right 10, 11", each side's 13 before its 10, the "side named"
 unfoldable pub typesFault : Typing → Typing → F.Fault
 unfolding sameType
 typesFault l r =

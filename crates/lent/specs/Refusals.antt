@@ -8,9 +8,10 @@ use lib.ListN.{length}
 use Rattle.words.specs.Listed.{allUpTo}
 use Rattle.term.specs.Trees.{Tree}
 use Rattle.term.specs.Terms.{maxWords}
-use Rattle.types.specs.Sorts.{Sort}
-use Rattle.types.specs.Rules.{_⊢_∶_, IsType}
+use Rattle.types.specs.Sorts.{Sort, IsType}
+use Rattle.types.specs.Rules.{_⊢_∶_}
 use Rattle.types.specs.First.{HasSort, FirstUntyped}
+use Rattle.types.specs.Strays.{FirstStray, NoStray}
 use Rattle.declarations.specs.Declarations.{contextIn, goodDeclarations}
 use Rattle.typing.specs.Answers.{HeldTerm, TypedTerm}
 use Rattle.rules.specs.Steps.{Sides}
@@ -32,15 +33,18 @@ module _ (ds left : List ℕ) (n : ℕ) (right : List ℕ) (m : ℕ) (steps : Li
   abbrev Terms : Tree → Tree → Type 0
   Terms t u = HeldTerm ds left n t × HeldTerm ds right m u
 
-  -- What is refused before any step, each told apart from those before it. 01: "left 10, 11, right 10, 11, then 12"; the steps' own codes come as in a file, behind 8
+  -- What is refused before any step, each told apart from those before it. 01: "left 10, 11, right 10, 11, then 12"; 02, CR 1: "a side's 13 tested before its 10"; the steps' own codes come
+  -- as in a file, behind 8
   pub data Refused : ℕ → ℕ → ℕ → Type 0 where
     wrong-size : (Sized → ⊥) → Refused 1 0 0
     bad-declarations : Sized → goodDeclarations ds ≡ false → Refused 7 0 0
     no-term : Sized → goodDeclarations ds ≡ true → ((t u : Tree) → Terms t u → ⊥) → Refused 8 0 0
     bad-steps : {t u : Tree} → Terms t u → (InOrder steps count → ⊥) → Refused (stepsFault steps count) 0 0
-    left-untyped : {t u : Tree} {k : ℕ} → Terms t u → InOrder steps count → (HasSort (contextIn ds) t → ⊥) → FirstUntyped (contextIn ds) t k → Refused 10 1 k
+    left-stray : {t u : Tree} {k : ℕ} → Terms t u → InOrder steps count → FirstStray (contextIn ds) t k → Refused 13 1 k
+    left-untyped : {t u : Tree} {k : ℕ} → Terms t u → InOrder steps count → NoStray (contextIn ds) t → (HasSort (contextIn ds) t → ⊥) → FirstUntyped (contextIn ds) t k → Refused 10 1 k
     left-no-type : {t u : Tree} {S : Sort} → Terms t u → InOrder steps count → contextIn ds ⊢ t ∶ S → (IsType S → ⊥) → Refused 11 1 0
-    right-untyped : {t u : Tree} {S : Sort} {k : ℕ} → Terms t u → InOrder steps count → TypedTerm ds left n t S
+    right-stray : {t u : Tree} {S : Sort} {k : ℕ} → Terms t u → InOrder steps count → TypedTerm ds left n t S → FirstStray (contextIn ds) u k → Refused 13 2 k
+    right-untyped : {t u : Tree} {S : Sort} {k : ℕ} → Terms t u → InOrder steps count → TypedTerm ds left n t S → NoStray (contextIn ds) u
         → (HasSort (contextIn ds) u → ⊥) → FirstUntyped (contextIn ds) u k → Refused 10 2 k
     right-no-type : {t u : Tree} {S R : Sort} → Terms t u → InOrder steps count → TypedTerm ds left n t S → contextIn ds ⊢ u ∶ R → (IsType R → ⊥) → Refused 11 2 0
     types-differ : {t u : Tree} {S R : Sort} → InOrder steps count → TypedTerm ds left n t S → TypedTerm ds right m u R → (S ≡ R → ⊥) → Refused 12 0 0

@@ -47,7 +47,7 @@ fn same_sizes(a: Sizes, b: Sizes) -> bool
     a.columns == b.columns
 }
 
-// 10 and 11 of the left side, of the right side, and 12.
+// 13, 10 and 11 of the left side, of the right side, and 12.
 fn types_fault(left: Typing, right: Typing) -> Fault
     ensures { λ r. ⌜ r ≡ typesFault left right ⌝ }
 {

@@ -9,7 +9,7 @@ use Rattle.term.specs.Heads.{word}
 use Rattle.term.specs.Trees.{Tree, words}
 use Rattle.rules.specs.Table.{_⇒_▷_}
 use Rattle.rules.proofs.Every.{on-equations, equation-passes}
-use Rattle.rules.proofs.Good.{met, inOrder, below, asked, good, all-three, every-good}
+use Rattle.rules.proofs.Good.{inOrder, good, both, every-good}
 use Rattle.rules.proofs.Matching.{none-formed}
 use Rattle.rulebook.specs.Code.Rows.{patternWords}
 use Rattle.rulebook.proofs.Made.{every-made}
@@ -33,7 +33,7 @@ found-by t rest (halted e) = stops e
 pub matches : Matches
 unfolding matchOf good
 matches n k l r rule t rest f =
-    let b = all-three (inOrder l 0) (below r (met l 0)) (asked k (met l 0)) (every-good n (k ⇒ l ▷ r) rule) in
+    let b = both (inOrder l 0) _ (every-good n (k ⇒ l ▷ r) rule) in
     rw (append-nil (patternWords l)) at (found-by t rest (left-walked (words t ++ rest) l t [] [] rest began (none-held _) none-formed f refl (b .0) (every-made n rule .0)))
 
 -- ---- heads first: a test of every equation

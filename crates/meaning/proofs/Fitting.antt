@@ -3,12 +3,13 @@ use mathlib.Core.Path.{_≡_, refl}
 use mathlib.Core.Option.{Option, some, none}
 use Prim.Native.Nat.{ℕ, _≤_, _<_}
 use native.Mathlib.Nat.{one-le-mul}
+use native.Mathlib.Omega.{arith}
 use lib.ListN.{getElem?}
 use Rattle.algebra.specs.Semirings.{Arithmetic}
 use Rattle.algebra.specs.Matrices.{zeros}
 use Rattle.term.specs.Trees.{Tree}
 use Rattle.types.specs.Sorts.{Sort, index, basis, scalar, ket, bra, operator, Context}
-use Rattle.types.specs.Rules.{_⊢_∶_, type-var, term-var, base-prod, WellFormed}
+use Rattle.types.specs.Rules.{_⊢_∶_, type-var, term-var, base-prod, sum-over, WellFormed}
 use Rattle.meaning.specs.Choices.{Choice, an-index, a-basis}
 use Rattle.meaning.specs.Meaning.{first, second, meaningOf, meaning, dimension}
 use Rattle.meaning.specs.Sorted.{Shaped}
@@ -21,12 +22,13 @@ module _ {R : Type 0} (𝓐 : Arithmetic R) {Γ : Context} (W : WellFormed Γ) w
   positive χ d (type-var h) = d _ h
   positive χ d (term-var e) = absurd (W .variable-type _ _ e .0)
   positive χ d (base-prod a b h) = one-le-mul (positive χ d a) (positive χ d b)
+  positive χ d (sum-over a b h n) = absurd h
 
 module _ {R : Type 0} (𝓐 : Arithmetic R) (Γ : Context) (δ π : ℕ → ℕ) (e : ℕ → ℕ → ℕ → R) where
   -- how many rows and columns what is declared has. A dimension looks at the dimensions of a choice alone
   size : Option Sort → ℕ × ℕ
   size S =
-      let d : Tree → ℕ = dimension 𝓐 (record { dimension = δ; position = π; matrix = λ a. zeros 𝓐 0 0 }) in
+      let d : Tree → ℕ = dimension 𝓐 (record { dimension = δ; position = π; matrix = λ a. zeros 𝓐 0 0; bound = λ a. 0 }) in
       elim S [
         | none ↦ (0, 0)
         | some (index σ) ↦ (0, 0)
@@ -38,7 +40,7 @@ module _ {R : Type 0} (𝓐 : Arithmetic R) (Γ : Context) (δ π : ℕ → ℕ)
       ]
 
   choice : Choice R
-  choice = record { dimension = δ; position = π; matrix = λ a. let s = size (getElem? (Γ .variables) a) in record { rows = s .0; columns = s .1; entry = e a } }
+  choice = record { dimension = δ; position = π; matrix = λ a. let s = size (getElem? (Γ .variables) a) in record { rows = s .0; columns = s .1; entry = e a }; bound = λ a. 0 }
 
   as-declared : (a : ℕ) (S : Sort) → getElem? (Γ .variables) a ≡ some S → Shaped 𝓐 choice S (choice .matrix a)
   unfolding choice size dimension
@@ -51,9 +53,9 @@ module _ {R : Type 0} (𝓐 : Arithmetic R) (Γ : Context) (δ π : ℕ → ℕ)
 
 pub chooses : {R : Type 0} (𝓐 : Arithmetic R) → Chooses 𝓐
 unfolding choice
-chooses 𝓐 Γ W δ π e from-one = (
+chooses 𝓐 Γ W unbound δ π e from-one = (
   choice 𝓐 Γ δ π e,
   record { dimensions = λ a. refl; positions = λ a. refl; entries = λ a i j. refl },
   λ σ h. positive 𝓐 W (choice 𝓐 Γ δ π e) from-one h,
-  λ inside. record { dimensions = from-one; positions = inside; matrices = as-declared 𝓐 Γ δ π e },
+  λ inside. record { dimensions = from-one; positions = inside; matrices = as-declared 𝓐 Γ δ π e; bounds = λ a σ h. absurd (let z : none ≡ some σ = rw unbound at h in let q : _≡_ {A = ℕ} 0 1 = cc in omega arith) },
 )

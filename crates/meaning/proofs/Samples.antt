@@ -39,6 +39,7 @@ abbrev Γ : Context
       types = 3;
       bases = type 0 ∷ type 1 ∷ type 0 ∷ type 2 ∷ [];
       variables = operator (type 0) (type 0) ∷ ket (type 1) ∷ scalar ∷ operator (type 0) (type 1) ∷ [];
+      bound = [];
     }
 
 -- a + b i, where −1 is `negsuc 0`
@@ -62,6 +63,7 @@ abbrev χ : Choice Gaussian
           ∷ record { rows = 1; columns = 1; entry = λ i j. pos 2 +i pos 3 }
           ∷ from-rows 3 (pos 0 +i pos 0 ∷ pos 0 +i pos 1 ∷ pos 0 +i pos 2 ∷ []) (pos 1 +i pos 0 ∷ pos 1 +i pos 1 ∷ pos 1 +i pos 2 ∷ [])
           ∷ []) a (from-rows 0 [] []);
+      bound = λ a. 0;
     }
 
 -- the number at a row and a column of a term

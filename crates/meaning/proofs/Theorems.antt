@@ -4,9 +4,9 @@ use mathlib.Core.Logic.{_↔_}
 use Rattle.algebra.specs.Semirings.{Arithmetic}
 use Rattle.algebra.specs.Matrices.{Matrix, _≈_}
 use Rattle.algebra.specs.Gaussian.{Gaussian, gaussian}
-use Rattle.types.specs.Sorts.{Sort, index, basis, scalar, ket, bra, operator}
-use Rattle.types.specs.Rules.{IsType}
+use Rattle.types.specs.Sorts.{Sort, index, basis, scalar, ket, bra, operator, IsType}
 use Rattle.types.proofs.Complete.{unique}
+use Rattle.types.proofs.Replace.{inside-well}
 use Rattle.meaning.specs.Choices.{Choice, Meaning}
 use Rattle.meaning.specs.Meaning.{mean}
 use Rattle.meaning.specs.Sorted.{Shaped, Proper, Same, EqualNumbers}
@@ -19,7 +19,8 @@ keeps-shape 𝓐 Γ χ W F t S d = shape 𝓐 W F d
 
 pub congruent : {R : Type 0} (𝓐 : Arithmetic R) → Congruent 𝓐
 congruent 𝓐 Γ χ W F t S at s u Q d e old new same =
-    replace-serves 𝓐 W F s u (λ P p. let z : Q ≡ P = unique Γ old p in rw (← z) (new, same)) t at e S d
+    let r = replace-serves 𝓐 s u W t at e (λ P p. let z : Q ≡ P = unique (inside-well W t at) old p in rw (← z) (new, same)) S d in
+    (r .0, r .1 χ F)
 
 -- ---- at a type, a meaning is its matrix
 module _ {R : Type 0} (𝓐 : Arithmetic R) where

@@ -1,14 +1,25 @@
 -- Choices, and what a part of a term stands for.
 use mathlib.Core.Path.{_≡_}
-use Prim.Native.Nat.{ℕ}
+use Prim.Native.Nat.{ℕ, zero, suc}
 use Rattle.algebra.specs.Semirings.{Arithmetic}
 use Rattle.algebra.specs.Matrices.{Matrix, zeros}
 
--- 01: "A choice is a dimension for each type name, an index for each basis name and, for each variable, the matrix, shaped as declared, that it stands for"
+-- 01: "A choice is a dimension for each type name, an index for each basis name and, for each variable, the matrix, shaped as declared, that it stands for". And for
+-- a part in the bodies of sums, the index at which each of them is, the innermost first
 pub record Choice (R : Type 0) : Type 0 where
   pub dimension : ℕ → ℕ
   pub position : ℕ → ℕ
   pub matrix : ℕ → Matrix R
+  pub bound : ℕ → ℕ
+
+-- one more in front
+unfoldable pub push : {A : Type 0} → A → (ℕ → A) → ℕ → A
+push x f zero = x
+push x f (suc a) = f a
+
+-- the same choice in a body, where its sum is at p
+abbrev pub run : {R : Type 0} → ℕ → Choice R → Choice R
+run p χ = record { dimension = χ .dimension; position = χ .position; matrix = χ .matrix; bound = push p (χ .bound) }
 
 -- A choice of exactly these: a dimension for each type name, a position for each basis name, and for each variable the entries, by row and column
 pub record Given {R : Type 0} (dimension position : ℕ → ℕ) (entry : ℕ → ℕ → ℕ → R) (χ : Choice R) : Type 0 where
@@ -27,6 +38,7 @@ pub record Names (R : Type 0) : Type 0 where
   pub types : ℕ → Meaning R
   pub bases : ℕ → Meaning R
   pub variables : ℕ → Meaning R
+  pub bounds : ℕ → Meaning R
 
 module _ {R : Type 0} (𝓐 : Arithmetic R) where
   unfoldable pub a-basis : ℕ → ℕ → Meaning R

@@ -22,11 +22,13 @@ module _ {R : Type 0} (𝓐 : Arithmetic R) where
   Shaped χ (bra σ) A = Shape A 1 (dimension 𝓐 χ σ)
   Shaped χ (operator σ τ) A = Shape A (dimension 𝓐 χ σ) (dimension 𝓐 χ τ)
 
-  -- 01: "A type name has a dimension from 1 up", "A basis name is an index from 0 below its dimension", "for each variable, the matrix, shaped as declared"
+  -- 01: "A type name has a dimension from 1 up", "A basis name is an index from 0 below its dimension", "for each variable, the matrix, shaped as declared"; a sum is at an index of its
+  -- dimension
   pub record Fits (Γ : Context) (χ : Choice R) : Type 0 where
     pub dimensions : (a : ℕ) → a < Γ .types → 1 ≤ χ .dimension a
     pub positions : (a : ℕ) (σ : Tree) → getElem? (Γ .bases) a ≡ some σ → χ .position a < dimension 𝓐 χ σ
     pub matrices : (a : ℕ) (S : Sort) → getElem? (Γ .variables) a ≡ some S → Shaped χ S (χ .matrix a)
+    pub bounds : (a : ℕ) (σ : Tree) → getElem? (Γ .bound) a ≡ some σ → χ .bound a < dimension 𝓐 χ σ
 
   -- Demand 3: "for every dimension from 1 up given to each type name, every index inside its range given to each basis name, and every Gaussian integer put into
   -- the entries of the variables, with the shapes as declared". None is left out: a choice of exactly these fits, and every range has an index inside

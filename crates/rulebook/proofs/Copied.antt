@@ -10,7 +10,7 @@ use lib.ListN.{length, take, drop, length-drop, length-take, drop-of-length-le, 
 use lib.Seq.{take-nil, take-take, take-append-le, take-add, take-at, drop-at, drop-nil, drop-drop}
 use Rattle.words.specs.Words.{overlaid}
 use Rattle.rules.specs.Patterns.{Pattern}
-use Rattle.rules.specs.Table.{Kind, _⇒_▷_, ruleOf}
+use Rattle.rules.specs.Table.{Condition, _⇒_▷_, ruleOf}
 use Rattle.rules.proofs.Every.{on-equations, equation-passes}
 use Rattle.rulebook.specs.Code.Rows.{patternWords, wordsIn, rowOf}
 use Rattle.rulebook.proofs.Rows.{words-past, sizes, sides-at, sides-inside}
@@ -32,7 +32,7 @@ pub laid-past : (dst : List ℕ) (rule from : ℕ) → 200 ≤ rule → dst ≡ 
 laid-past dst rule from h = rw (words-past (rule / 50) (omega arith), drop-nil from) (laid-none dst)
 
 -- ---- both sides of an equation, one behind the other
-module _ (n : ℕ) {k : Kind} {l r : Pattern} (rule : ruleOf n ≡ some (k ⇒ l ▷ r)) where
+module _ (n : ℕ) {k : Condition} {l r : Pattern} (rule : ruleOf n ≡ some (k ⇒ l ▷ r)) where
   pub sides-short : rowOf n .b + rowOf n .c ≤ 24
   unfolding on-equations patternWords
   sides-short =

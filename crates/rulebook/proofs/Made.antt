@@ -8,7 +8,7 @@ use borrow.Author.Tests.{ltb-true, ne-eqb, eqb-true}
 use lib.Dec.{eqb, ltb}
 use Rattle.term.specs.Heads.{Label, Reading, unread, labelled, read, word}
 use Rattle.rules.specs.Patterns.{Pattern, #_, first, second, _⟨⟩, _⟨_⟩, _⟨_∣_⟩}
-use Rattle.rules.specs.Table.{Kind, _⇒_▷_, ruleOf}
+use Rattle.rules.specs.Table.{Condition, _⇒_▷_, ruleOf}
 use Rattle.rules.proofs.Every.{on-equations, equation-passes}
 use Rattle.rules.proofs.Good.{both}
 
@@ -40,6 +40,6 @@ head-count l m n k e f d =
     d (sym c ∙ rw (z, f) refl)
 
 -- ---- every equation of the table is made so
-pub every-made : (n : ℕ) {k : Kind} {l r : Pattern} → ruleOf n ≡ some (k ⇒ l ▷ r) → (made l ≡ true) × (made r ≡ true)
+pub every-made : (n : ℕ) {k : Condition} {l r : Pattern} → ruleOf n ≡ some (k ⇒ l ▷ r) → (made l ≡ true) × (made r ≡ true)
 unfolding on-equations made headWord childrenIn read word
 every-made n {k} {l} {r} e = both (made l) (made r) (equation-passes (λ l r. made l && made r) refl n k l r e)

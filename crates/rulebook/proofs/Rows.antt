@@ -14,11 +14,11 @@ use Rattle.words.specs.Listed.{upTo, allUpTo}
 use Rattle.words.proofs.Listed.{upTo-read, allUpTo-at}
 use Rattle.term.specs.Heads.{word}
 use Rattle.rules.specs.Patterns.{Pattern, #_, first, second, _⟨⟩, _⟨_⟩, _⟨_∣_⟩}
-use Rattle.rules.specs.Table.{Kind, Rule, _⇒_▷_, Line, _∶_, table, find, ruleOf}
+use Rattle.rules.specs.Table.{Condition, Rule, _⇒_▷_, Line, _∶_, table, find, ruleOf}
 use Rattle.rulebook.specs.declared.Row.{Row}
-use Rattle.rulebook.specs.Code.Rows.{patternWords, ruleWords, wordsOf, grouped, linesIn, wordsIn, startAmong, startIn, row, rowFor, rowOf, lineOf, kindNumber}
+use Rattle.rulebook.specs.Code.Rows.{patternWords, ruleWords, wordsOf, grouped, linesIn, wordsIn, startAmong, startIn, row, rowFor, rowOf, lineOf, conditionNumber}
 
--- ---- no rule has a number from 171 on
+-- ---- no rule has a number from 184 on
 below : ℕ → List Line → Bool
 below m [] = true
 below m ((n ∶ r) ∷ ls) = ltb n m && below m ls
@@ -30,9 +30,9 @@ find-past m ((k ∶ r) ∷ ls) e n h =
     let p = and-eq-true-iff (ltb k m) _ .0 e in
     rw (ne-eqb n k (λ z. omega (arith, ltb-true k m (p .0), z, h))) (find-past m ls (p .1) n h)
 
-pub line-past : (n : ℕ) → 171 ≤ n → lineOf (rowOf n) ≡ 0
+pub line-past : (n : ℕ) → 184 ≤ n → lineOf (rowOf n) ≡ 0
 unfolding lineOf rowOf ruleOf rowFor below
-line-past n h = rw (find-past 171 table refl n h)
+line-past n h = rw (find-past 184 table refl n h)
 
 -- the rows from a number on, as many as one array holds
 pub line-from : (from n rule : ℕ) → from ≤ rule → rule < from + n → getD (upTo n (λ k. lineOf (rowOf (from + k)))) (rule - from) 0 ≡ lineOf (rowOf rule)
@@ -63,9 +63,9 @@ same-row r s e =
 
 pub row-in : (n : ℕ) → rowIn (lineOf (rowOf n)) ≡ rowOf n
 unfolding allUpTo sameRow below lineOf rowOf ruleOf startAmong grouped word
-row-in n = elim (decLt n 171) [
-  | yes h ↦ same-row _ _ (allUpTo-at 171 (λ k. sameRow (rowIn (lineOf (rowOf k))) (rowOf k)) refl n h)
-  | no h ↦ rw (find-past 171 table refl n (omega arith))
+row-in n = elim (decLt n 184) [
+  | yes h ↦ same-row _ _ (allUpTo-at 184 (λ k. sameRow (rowIn (lineOf (rowOf k))) (rowOf k)) refl n h)
+  | no h ↦ rw (find-past 184 table refl n (omega arith))
 ]
 
 -- ---- groups: a rule is found in its own, and one whose numbers are past every line's has no line
@@ -92,14 +92,14 @@ grouped-past m ((k ∶ r) ∷ ls) e g h =
 
 pub words-past : (g : ℕ) → 4 ≤ g → wordsIn g ≡ []
 unfolding wordsIn wordsOf linesIn below
-words-past g h = ap wordsOf (grouped-past 171 table refl g (omega arith))
+words-past g h = ap wordsOf (grouped-past 184 table refl g (omega arith))
 
 -- ---- the words of an equation stand where its row says
 record Stand (n : ℕ) (ls : List Line) (l r : Pattern) : Type 0 where
   rest : List ℕ
   are : drop (startAmong n ls) (wordsOf ls) ≡ patternWords l ++ (patternWords r ++ rest)
 
-stand-first : (n m : ℕ) (s : Rule) (ls : List Line) {k : Kind} (l r : Pattern) → eqb n m ≡ true → s ≡ k ⇒ l ▷ r → Stand n ((m ∶ s) ∷ ls) l r
+stand-first : (n m : ℕ) (s : Rule) (ls : List Line) {k : Condition} (l r : Pattern) → eqb n m ≡ true → s ≡ k ⇒ l ▷ r → Stand n ((m ∶ s) ∷ ls) l r
 unfolding startAmong wordsOf ruleWords
 stand-first n m s ls l r h e = record { rest = wordsOf ls; are = rw (h, e) (append-assoc (patternWords l) (patternWords r) (wordsOf ls)) }
 
@@ -107,7 +107,7 @@ stand-later : (n m : ℕ) (s : Rule) (ls : List Line) (l r : Pattern) → eqb n 
 unfolding startAmong wordsOf
 stand-later n m s ls l r h x = record { rest = x .rest; are = rw (h, drop-append-add (ruleWords s) (wordsOf ls) (startAmong n ls)) (x .are) }
 
-stand : (n : ℕ) (ls : List Line) {k : Kind} (l r : Pattern) → find n ls ≡ some (k ⇒ l ▷ r) → Stand n ls l r
+stand : (n : ℕ) (ls : List Line) {k : Condition} (l r : Pattern) → find n ls ≡ some (k ⇒ l ▷ r) → Stand n ls l r
 stand n [] l r e = absurd (let z : _≡_ {A = ℕ} 0 1 = cc in omega arith)
 stand n ((m ∶ s) ∷ ls) {k} l r e = by-test (eqb n m) refl e (λ f. stand n ls l r f)
   where
@@ -126,7 +126,7 @@ pattern-some (l ⟨ p ⟩) = omega arith
 pattern-some (l ⟨ p ∣ q ⟩) = omega arith
 
 -- both sides of an equation, one behind the other
-module _ (n : ℕ) (ls : List Line) {k : Kind} {l r : Pattern} (e : find n ls ≡ some (k ⇒ l ▷ r)) where
+module _ (n : ℕ) (ls : List Line) {k : Condition} {l r : Pattern} (e : find n ls ≡ some (k ⇒ l ▷ r)) where
   stands : Stand n ls l r
   stands = stand n ls l r e
 
@@ -141,15 +141,15 @@ module _ (n : ℕ) (ls : List Line) {k : Kind} {l r : Pattern} (e : find n ls �
       omega (arith, length-drop (startAmong n ls) (wordsOf ls), pattern-some l)
 
 -- ---- the row of an equation: both sides are in its group, at the place and of the lengths that the row says
-module _ (n : ℕ) {k : Kind} {l r : Pattern} (e : ruleOf n ≡ some (k ⇒ l ▷ r)) where
-  row-at : rowOf n ≡ row 1 (startAmong n (linesIn (n / 50))) (length (patternWords l)) (length (patternWords r)) (kindNumber k)
+module _ (n : ℕ) {k : Condition} {l r : Pattern} (e : ruleOf n ≡ some (k ⇒ l ▷ r)) where
+  row-at : rowOf n ≡ row 1 (startAmong n (linesIn (n / 50))) (length (patternWords l)) (length (patternWords r)) (conditionNumber k)
   unfolding rowOf rowFor startIn linesIn
   row-at = rw e
 
   pub sizes : (rowOf n .b ≡ length (patternWords l)) × (rowOf n .c ≡ length (patternWords r))
   sizes = rw row-at (refl, refl)
 
-  pub kind-at : rowOf n .d ≡ kindNumber k
+  pub kind-at : rowOf n .d ≡ conditionNumber k
   kind-at = rw row-at
 
   pub sides-at : (take (rowOf n .b) (drop (rowOf n .a) (wordsIn (n / 50))) ≡ patternWords l) × (take (rowOf n .c) (drop (rowOf n .a + rowOf n .b) (wordsIn (n / 50))) ≡ patternWords r)

@@ -780,7 +780,7 @@ pub const WORDS_FROM_100: [u16; 248] = [
     0xff02, // 143 right #2
 ];
 
-pub const WORDS_FROM_150: [u16; 108] = [
+pub const WORDS_FROM_150: [u16; 127] = [
     // 150 MULO0: 25 14 #0 #1 #2 becomes 14 #0 second #2
     0x1900, // 150 left 25
     0x0e00, // 150 left 14
@@ -900,4 +900,26 @@ pub const WORDS_FROM_150: [u16; 108] = [
     0xff01, // 162 right #1
     0xff03, // 162 right #3
     0xff04, // 162 right #4
+    // 180 SUM0: 27 #0 5 becomes 5
+    0x1b00, // 180 left 27
+    0xff00, // 180 left #0
+    0x0500, // 180 left 5
+    0x0500, // 180 right 5
+    // 181 SUM1: 27 #0 24 16 28:0 17 28:0 becomes 15 #0
+    0x1b00, // 181 left 27
+    0xff00, // 181 left #0
+    0x1800, // 181 left 24
+    0x1000, // 181 left 16
+    0x1c00, // 181 left 28:0
+    0x1100, // 181 left 17
+    0x1c00, // 181 left 28:0
+    0x0f00, // 181 right 15
+    0xff00, // 181 right #0
+    // 183 SUM3: 27 #0 10 #1 28:0 becomes 6
+    0x1b00, // 183 left 27
+    0xff00, // 183 left #0
+    0x0a00, // 183 left 10
+    0xff01, // 183 left #1
+    0x1c00, // 183 left 28:0
+    0x0600, // 183 right 6
 ];

@@ -12,21 +12,22 @@ use Rattle.types.specs.Rules.{_⊢_∶_, WellFormed}
 use Rattle.meaning.specs.Choices.{Choice}
 use Rattle.meaning.specs.Sorted.{Fits}
 use Rattle.rules.specs.Patterns.{Pattern}
-use Rattle.rules.specs.Table.{Kind, child, child-i, Summand, Rule, _⇒_▷_, spreading, removing, absorbing, merging, collecting, swapping, table, ruleOf}
-use Rattle.rules.specs.Instances.{spread, Instance, equals, spreads, removes, absorbs, merges, collects, swaps}
+use Rattle.rules.specs.Table.{Condition, child, child-i, Summand, Rule, _⇒_▷_, spreading, removing, absorbing, merging, collecting, swapping, distributing, table, ruleOf}
+use Rattle.rules.specs.Instances.{spread, Instance, equals, spreads, removes, absorbs, merges, collects, swaps, distributes}
 use Rattle.rules.proofs.Every.{Every, _⨾_, every-rule}
 use Rattle.rules.proofs.FamilyMeanings.{swap-means, merge-means, remove-means, collect-means, unit-value, absorb-means}
 use Rattle.rules.proofs.Forests.{Fitting, scalar-zeros, scalar-ones, ket-zeros, bra-zeros, operator-zeros, fitting-chain}
 use Rattle.rules.proofs.Lines.{Law, given, value}
 use Rattle.rules.proofs.Meanings.{means-2, means-3, means-10, means-11, means-14, means-15, means-16, means-20, means-21, means-22, means-23, means-26, means-27, means-28, means-29, means-30, means-31, means-32, means-33, means-34, means-40, means-41, means-43, means-44, means-45, means-46, means-47, means-48, means-50, means-60, means-61, means-63, means-64, means-65, means-66, means-67, means-68, means-69, means-70, means-71, means-72, means-73, means-80, means-81, means-84, means-85, means-86, means-87, means-88, means-89, means-90, means-91, means-92, means-93, means-100, means-101, means-102, means-103, means-104, means-107, means-108, means-109, means-110, means-111, means-120, means-121, means-122, means-123, means-124, means-127, means-128, means-129, means-130, means-131, means-140, means-141, means-142, means-143, means-150, means-151, means-152, means-153, means-154, means-155, means-156, means-157, means-160, means-161, means-162}
+use Rattle.rules.proofs.Summing.{means-180, means-181, means-183, distribute-means}
 use Rattle.rules.proofs.Spreading.{First, Second, product-any, conjugate-sum, conjugate-product, dot-first, dot-second, scale-second, adjoint-first, tensor-first, tensor-second, mulk-first, mulk-second, mulb-first, mulb-second, outer-first, outer-second, mulo-first, mulo-second}
 
 module _ {R : Type 0} {𝓐 : Arithmetic R} (𝓡 : StarSemiring 𝓐) {Γ : Context} {χ : Choice R} (W : WellFormed Γ) (F : Fits 𝓐 Γ χ) where
   abbrev pub RuleMeans : Rule → Type 0
   RuleMeans r = (i j : ℕ) (p q : Tree) (S : Sort) → Instance Γ r i j p q → Γ ⊢ p ∶ S → value Γ 𝓡 χ p ≈ value Γ 𝓡 χ q
 
-  equation : {k : Kind} {l r : Pattern} → Law Γ (λ p q S. Γ ⊢ p ∶ S → value Γ 𝓡 χ p ≈ value Γ 𝓡 χ q) (some (k ⇒ l ▷ r)) → RuleMeans (k ⇒ l ▷ r)
-  equation {k} {l} {r} law i j p q S (equals θ a b w) d = given Γ (λ p q S. Γ ⊢ p ∶ S → value Γ 𝓡 χ p ≈ value Γ 𝓡 χ q) k l r law θ p q S a b w d
+  equation : {k : Condition} {l r : Pattern} → Law Γ (λ p q S. Γ ⊢ p ∶ S → value Γ 𝓡 χ p ≈ value Γ 𝓡 χ q) (some (k ⇒ l ▷ r)) → RuleMeans (k ⇒ l ▷ r)
+  equation {k} {l} {r} law i j p q S (equals θ a b w) d = given Γ W (λ p q S. Γ ⊢ p ∶ S → value Γ 𝓡 χ p ≈ value Γ 𝓡 χ q) k l r law θ p q S a b w d
 
   spreading-first : {l s r : Label} → First 𝓡 W F l s r → RuleMeans (spreading l (child 0) s r)
   unfolding _⧺_ count
@@ -58,6 +59,9 @@ module _ {R : Type 0} {𝓐 : Arithmetic R} (𝓡 : StarSemiring 𝓐) {Γ : Con
 
   swapping-means : RuleMeans swapping
   swapping-means i j p q S (swaps b a t u c) d = swap-means 𝓡 W F c b t u a d
+
+  distributing-means : RuleMeans distributing
+  distributing-means i j p q S (distributes s f x) d = distribute-means 𝓡 W F s f x d
 
   every-means : Every RuleMeans table
   every-means =
@@ -179,6 +183,10 @@ module _ {R : Type 0} {𝓐 : Arithmetic R} (𝓡 : StarSemiring 𝓐) {Γ : Con
       equation (means-161 𝓡 W F) ⨾
       equation (means-162 𝓡 W F) ⨾
       swapping-means ⨾
+      equation (means-180 𝓡 W F) ⨾
+      equation (means-181 𝓡 W F) ⨾
+      distributing-means ⨾
+      equation (means-183 𝓡 W F) ⨾
       tt
 
   pub rule-means : (n : ℕ) (r : Rule) → ruleOf n ≡ some r → RuleMeans r

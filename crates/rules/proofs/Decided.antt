@@ -1,28 +1,29 @@
 -- The function `rewrite` answers exactly the instances of a rule.
 use mathlib.Core.Path.{_≡_, refl, sym, _∙_, ap}
 use mathlib.Core.Bool.{Bool, true, false, cond, _&&_, _||_}
+use mathlib.Core.Logic.{_⊎_, inl, inr}
 use mathlib.Core.List.{List, []}
 use mathlib.Core.Option.{Option, some, none as refused}
-use Prim.Native.Nat.{ℕ, suc, _+_}
+use Prim.Native.Nat.{ℕ, suc, _+_, _*_}
 use native.Mathlib.Omega.{arith}
-use borrow.Author.Tests.{eqb-true, eq-eqb, lt-ltb, ltb-true}
+use borrow.Author.Tests.{eqb-true, eq-eqb, ne-eqb, lt-ltb, ltb-true}
 use lib.Dec.{eqb, ltb}
 use lib.ListN.{length}
 use Rattle.words.specs.Words.{sameWords}
 use Rattle.words.proofs.Runs.{same-words}
-use Rattle.term.specs.Heads.{Label, word, heads, reading, scalar-zero, scalar-sum, scalar-product, scale, add}
+use Rattle.term.specs.Heads.{Label, word, heads, labelled, reading, scalar-zero, scalar-sum, scalar-product, scale, add, big-sum}
 use Rattle.term.specs.Trees.{Tree, Forest, node, none, _▹_, _⧺_, count, words, Formed}
 use Rattle.term.proofs.Readings.{read-at}
 use Rattle.term.proofs.Parsing.{⧺-assoc, count-⧺, Formed*-⧺}
 use Rattle.types.specs.Sorts.{Sort, index, basis, scalar, ket, bra, operator, Context}
 use Rattle.types.specs.Rules.{_⊢_∶_, WellFormed}
 use Rattle.rules.specs.Patterns.{Pattern, #_, first, second, _⟨⟩, _⟨_⟩, _⟨_∣_⟩}
-use Rattle.rules.specs.Table.{Kind, any, a-ket, a-bra, an-operator, Which, child, child-i, Summand, plain, scaled, Rule, _⇒_▷_, spreading, removing, absorbing, merging, collecting, swapping}
-use Rattle.rules.specs.Instances.{Filled, hole, first-of, second-of, over-none, over-one, over-two, OfKind, Chain, scalar-sums, scalar-products, sums, Picks, spread, summand, factor, Instance, equals, spreads, removes, absorbs, merges, collects, swaps}
-use Rattle.rules.specs.Rewrite.{nameless, isHead, sortOf, wanted, fill, match, holes, filled, Opened, open-at, spreadAt, removeAt, absorbAt, mergeAt, swapAt, Multiple, no-multiple, multiple, multipleOf, collected, collectBefore, collectAt, isChain, place, usable, rewrite}
-use Rattle.rules.proofs.Known.{is-head, head-is}
-use Rattle.rules.proofs.Good.{met, inOrder, below, asked, good, Good, both, all-three}
-use Rattle.rules.proofs.Lines.{not-so, sort-is, fill-is, kind-is}
+use Rattle.rules.specs.Table.{Condition, any, a-ket, a-bra, an-operator, unused, Which, child, child-i, Summand, plain, scaled, Rule, _⇒_▷_, spreading, removing, absorbing, merging, collecting, swapping, distributing}
+use Rattle.rules.specs.Instances.{Filled, hole, first-of, second-of, over-none, over-one, over-two, Holds, Chain, scalar-sums, scalar-products, sums, Sum, of-scalars, of-arrays, Picks, spread, summand, factor, Instance, equals, spreads, removes, absorbs, merges, collects, swaps, distributes}
+use Rattle.rules.specs.Rewrite.{nameless, isHead, sortOf, wanted, fill, match, holes, satisfied, filled, Opened, behind, open-at, spreadAt, removeAt, absorbAt, mergeAt, swapAt, orElse, distributeAt, Multiple, no-multiple, multiple, multipleOf, collected, collectBefore, collectAt, isChain, place, usable, rewrite}
+use Rattle.rules.proofs.Known.{either, is-head, head-is}
+use Rattle.rules.proofs.Good.{met, inOrder, below, asked, flat, asksNone, ofWords, Good, both, all-three, fine, good}
+use Rattle.rules.proofs.Lines.{not-so, sort-is, fill-is, condition-is}
 use Rattle.rules.proofs.Opening.{At, too-far, there, at, open-⧺}
 use Rattle.rules.proofs.Matching.{Agrees, fill-agrees, meets, no-answer, cond-some, same-part, none-formed, AllTyped, matched}
 
@@ -48,29 +49,38 @@ is-chain scalar-sums n = rw (is-head scalar-sum n)
 is-chain scalar-products n = or-second (isHead scalar-sum scalar-product n) _ (rw (is-head scalar-product n))
 is-chain sums n = or-second (isHead scalar-sum add n) _ (or-second (isHead scalar-product add n) _ (is-head add n))
 
+other-sum : (n : ℕ) → isHead scalar-sum add n ≡ false
+unfolding isHead word
+other-sum n = ne-eqb (7 * 256 + n) (20 * 256 + n) (λ e. omega (arith, e))
+
+distributes-found : {l : Label} (s : Tree) (f : Forest) → Sum l → distributeAt (open-at (s ▹ node l f ▹ none) 1) ≡ some (node l (spread big-sum (s ▹ none) f none))
+unfolding distributeAt open-at behind
+distributes-found s f of-scalars = rw (is-head scalar-sum (count f))
+distributes-found s f of-arrays = rw (other-sum (count f), is-head add (count f))
+
 -- ---- summands
 multiple-of : (u : Summand) (a x : Tree) → multipleOf u (summand u a x) ≡ multiple (factor u a) x
 unfolding multipleOf
 multiple-of plain a x = refl
 multiple-of scaled a x = rw (is-head scale 2)
 
--- the kind that is asked for is that of the part in hole 0
-kind-agrees : (Γ : Context) (θ : ℕ → Tree) (c : List Tree) → Agrees θ c → (k : Kind) → asked k (length c) ≡ true
-    → wanted k (sortOf Γ (holes c 0)) ≡ wanted k (sortOf Γ (θ 0))
-unfolding asked
-kind-agrees Γ θ c a any h = refl
-kind-agrees Γ θ c a a-ket h = rw (a 0 (ltb-true 0 (length c) h))
-kind-agrees Γ θ c a a-bra h = rw (a 0 (ltb-true 0 (length c) h))
-kind-agrees Γ θ c a an-operator h = rw (a 0 (ltb-true 0 (length c) h))
+-- the condition looks at the holes that the left side has
+condition-agrees : (Γ : Context) (θ : ℕ → Tree) (c : List Tree) → Agrees θ c → (k : Condition) → asked k (length c) ≡ true → satisfied Γ k (holes c) ≡ satisfied Γ k θ
+unfolding asked satisfied
+condition-agrees Γ θ c a any h = refl
+condition-agrees Γ θ c a a-ket h = rw (a 0 (ltb-true 0 (length c) h))
+condition-agrees Γ θ c a a-bra h = rw (a 0 (ltb-true 0 (length c) h))
+condition-agrees Γ θ c a an-operator h = rw (a 0 (ltb-true 0 (length c) h))
+condition-agrees Γ θ c a unused h = rw (a 1 (ltb-true 1 (length c) h))
 
-equals-found : (Γ : Context) (k : Kind) (l r : Pattern) (θ : ℕ → Tree) → Good (k ⇒ l ▷ r) → wanted k (sortOf Γ (θ 0)) ≡ true
+equals-found : (Γ : Context) (k : Condition) (l r : Pattern) (θ : ℕ → Tree) → Good (k ⇒ l ▷ r) → satisfied Γ k θ ≡ true
     → filled Γ k r (match l (fill Γ θ l) []) ≡ some (fill Γ θ r)
-unfolding good filled
+unfolding filled
 equals-found Γ k l r θ g h =
-    let b = all-three (inOrder l 0) (below r (met l 0)) (asked k (met l 0)) g in
-    let m = meets Γ θ l [] (b .0) (λ k s. absurd (omega (arith, s))) in
-    let p = kind-agrees Γ θ (m .held) (m .agrees) k (rw (m .many) (b .1 .1)) in
-    let q = fill-agrees Γ θ (m .held) (m .agrees) r (rw (m .many) (b .1 .0)) in
+    let b = fine k l r g in
+    let m = meets Γ θ l [] (b .order) (λ k s. absurd (omega (arith, s))) in
+    let p = condition-agrees Γ θ (m .held) (m .agrees) k (rw (m .many) (b .asks)) in
+    let q = fill-agrees Γ θ (m .held) (m .agrees) r (rw (m .many) (b .below-holes)) in
     rw (m .answers, p, h, q)
 
 collects-found : (u v : Summand) (before between after : Forest) (a b x : Tree)
@@ -81,83 +91,101 @@ collects-found u v before between after a b x =
     let c : count before + 1 + count between ≡ count (before ⧺ summand u a x ▹ between) = omega (arith, count-⧺ before (summand u a x ▹ between)) in
     rw (c, ← ⧺-assoc before (summand u a x ▹ between) (summand v b x ▹ after), open-⧺, open-⧺, multiple-of u a x, multiple-of v b x, same-words)
 
-pub complete : {Γ : Context} {r : Rule} {i j : ℕ} {p q : Tree} → Good r → Instance Γ r i j p q → rewrite Γ r i j p ≡ some q
-unfolding rewrite spreadAt removeAt absorbAt mergeAt swapAt
-complete {Γ} g (equals {k} {l} {r} θ a b w) = rw (fill-is Γ a, fill-is Γ b) (equals-found Γ k l r θ g (kind-is Γ k (θ 0) w))
-complete g (spreads {l} {s} {r} {w} {i} b f a h) = rw (picks-usable w i (count b) h, is-head l _, picks-place w i (count b) h, open-⧺, is-head s _)
-complete g (removes {l} {c} b f a h) = rw (is-head l _, open-⧺, is-head c _, lt-ltb 0 _ h)
-complete g (absorbs b a) = rw (is-head scalar-product _, open-⧺, is-head scalar-zero _)
-complete g (merges {l} b f a h) = rw (is-chain h _, open-⧺, is-head l _)
-complete g (collects {u} {v} b m a c d x) = rw (is-head add _) (collects-found u v b m a c d x)
-complete g (swaps {l} b a t u h) = rw (is-chain h _, open-⧺)
+pub complete : {Γ : Context} → WellFormed Γ → {r : Rule} {i j : ℕ} {p q : Tree} → Good r → Instance Γ r i j p q → rewrite Γ r i j p ≡ some q
+unfolding rewrite spreadAt removeAt absorbAt mergeAt swapAt distributeAt
+complete {Γ} W g (equals {k} {l} {r} θ a b w) = rw (fill-is W a, fill-is W b) (equals-found Γ k l r θ g (condition-is W k θ w))
+complete W g (spreads {l} {s} {r} {w} {i} b f a h) = rw (picks-usable w i (count b) h, is-head l _, picks-place w i (count b) h, open-⧺, is-head s _)
+complete W g (removes {l} {c} b f a h) = rw (is-head l _, open-⧺, is-head c _, lt-ltb 0 _ h)
+complete W g (absorbs b a) = rw (is-head scalar-product _, open-⧺, is-head scalar-zero _)
+complete W g (merges {l} b f a h) = rw (is-chain h _, open-⧺, is-head l _)
+complete W g (collects {u} {v} b m a c d x) = rw (is-head add _) (collects-found u v b m a c d x)
+complete W g (swaps {l} b a t u h) = rw (is-chain h _, open-⧺)
+complete W g (distributes {l} s f x) = rw (picks-usable (child 1) 0 1 (refl, refl), is-head big-sum _, picks-place (child 1) 0 1 (refl, refl)) (distributes-found s f x)
 
-pub unique : {Γ : Context} {r : Rule} {i j : ℕ} {p q q′ : Tree} → Good r → Instance Γ r i j p q → Instance Γ r i j p q′ → q ≡ q′
-unique g a b = cc (complete g a, complete g b)
+pub unique : {Γ : Context} → WellFormed Γ → {r : Rule} {i j : ℕ} {p q q′ : Tree} → Good r → Instance Γ r i j p q → Instance Γ r i j p q′ → q ≡ q′
+unique W g a b = cc (complete W g a, complete W g b)
 
 -- ---- and what it answers is an instance
 instance-at : {Γ : Context} {r : Rule} {i i′ j j′ : ℕ} {p p′ q q′ : Tree} → i ≡ i′ → j ≡ j′ → p ≡ p′ → q′ ≡ q → Instance Γ r i′ j′ p′ q′ → Instance Γ r i j p q
 instance-at a b c d x = rw (a, b, c, ← d) x
 
 -- patterns
-filled-some : {q : Tree} (Γ : Context) (k : Kind) (r : Pattern) (o : Option (List Tree)) → filled Γ k r o ≡ some q
-    → (c : List Tree) × (o ≡ some c) × (wanted k (sortOf Γ (holes c 0)) ≡ true) × (fill Γ (holes c) r ≡ q)
+filled-some : {q : Tree} (Γ : Context) (k : Condition) (r : Pattern) (o : Option (List Tree)) → filled Γ k r o ≡ some q
+    → (c : List Tree) × (o ≡ some c) × (satisfied Γ k (holes c) ≡ true) × (fill Γ (holes c) r ≡ q)
 unfolding filled
 filled-some Γ k r refused e = no-answer e
-filled-some Γ k r (some c) e = let b = cond-some (wanted k (sortOf Γ (holes c 0))) (some (fill Γ (holes c) r)) e in (c, refl, b .0, cc (b .1))
+filled-some Γ k r (some c) e = let b = cond-some (satisfied Γ k (holes c)) (some (fill Γ (holes c) r)) e in (c, refl, b .0, cc (b .1))
 
 -- a sort that passes the test is of the kind
-kind-of-sort : {Γ : Context} {t : Tree} (k : Kind) (S : Sort) → Γ ⊢ t ∶ S → wanted k S ≡ true → OfKind Γ k t
-kind-of-sort any S d w = tt
-kind-of-sort a-ket (index σ) d w = absurd (not-so w)
-kind-of-sort a-ket (basis σ) d w = absurd (not-so w)
-kind-of-sort a-ket scalar d w = absurd (not-so w)
-kind-of-sort a-ket (ket σ) d w = (σ, d)
-kind-of-sort a-ket (bra σ) d w = absurd (not-so w)
-kind-of-sort a-ket (operator σ τ) d w = absurd (not-so w)
-kind-of-sort a-bra (index σ) d w = absurd (not-so w)
-kind-of-sort a-bra (basis σ) d w = absurd (not-so w)
-kind-of-sort a-bra scalar d w = absurd (not-so w)
-kind-of-sort a-bra (ket σ) d w = absurd (not-so w)
-kind-of-sort a-bra (bra σ) d w = (σ, d)
-kind-of-sort a-bra (operator σ τ) d w = absurd (not-so w)
-kind-of-sort an-operator (index σ) d w = absurd (not-so w)
-kind-of-sort an-operator (basis σ) d w = absurd (not-so w)
-kind-of-sort an-operator scalar d w = absurd (not-so w)
-kind-of-sort an-operator (ket σ) d w = absurd (not-so w)
-kind-of-sort an-operator (bra σ) d w = absurd (not-so w)
-kind-of-sort an-operator (operator σ τ) d w = (σ, τ, d)
+ket-of : {Γ : Context} {t : Tree} (S : Sort) → Γ ⊢ t ∶ S → wanted a-ket S ≡ true → (σ : Tree) × (Γ ⊢ t ∶ ket σ)
+ket-of (index σ) d w = absurd (not-so w)
+ket-of (basis σ) d w = absurd (not-so w)
+ket-of scalar d w = absurd (not-so w)
+ket-of (ket σ) d w = (σ, d)
+ket-of (bra σ) d w = absurd (not-so w)
+ket-of (operator σ τ) d w = absurd (not-so w)
 
--- the holes are typed, so the right side is filled as the rule asks, and hole 0 is of the kind that it wants
-module _ {Γ : Context} (c : List Tree) (all : AllTyped Γ c) where
-  hole-typed : (k : ℕ) → ltb k (length c) ≡ true → Γ ⊢ holes c k ∶ sortOf Γ (holes c k)
-  hole-typed k b = let d = all k (ltb-true k (length c) b) in rw (sort-is Γ (d .1)) (d .1)
+bra-of : {Γ : Context} {t : Tree} (S : Sort) → Γ ⊢ t ∶ S → wanted a-bra S ≡ true → (σ : Tree) × (Γ ⊢ t ∶ bra σ)
+bra-of (index σ) d w = absurd (not-so w)
+bra-of (basis σ) d w = absurd (not-so w)
+bra-of scalar d w = absurd (not-so w)
+bra-of (ket σ) d w = absurd (not-so w)
+bra-of (bra σ) d w = (σ, d)
+bra-of (operator σ τ) d w = absurd (not-so w)
 
-  right-filled : (p : Pattern) → below p (length c) ≡ true → Filled Γ (holes c) p (fill Γ (holes c) p)
-  unfolding below
-  right-filled (# k) b = hole
-  right-filled (first k) b = first-of (hole-typed k b)
-  right-filled (second k) b = second-of (hole-typed k b)
-  right-filled (h ⟨⟩) b = over-none
-  right-filled (h ⟨ p ⟩) b = over-one (right-filled p b)
-  right-filled (h ⟨ p ∣ q ⟩) b = let e = both (below p (length c)) (below q (length c)) b in over-two (right-filled p (e .0)) (right-filled q (e .1))
+operator-of : {Γ : Context} {t : Tree} (S : Sort) → Γ ⊢ t ∶ S → wanted an-operator S ≡ true → (σ : Tree) × (τ : Tree) × (Γ ⊢ t ∶ operator σ τ)
+operator-of (index σ) d w = absurd (not-so w)
+operator-of (basis σ) d w = absurd (not-so w)
+operator-of scalar d w = absurd (not-so w)
+operator-of (ket σ) d w = absurd (not-so w)
+operator-of (bra σ) d w = absurd (not-so w)
+operator-of (operator σ τ) d w = (σ, τ, d)
 
-  of-kind : (k : Kind) → asked k (length c) ≡ true → wanted k (sortOf Γ (holes c 0)) ≡ true → OfKind Γ k (holes c 0)
-  unfolding asked
-  of-kind any b w = tt
-  of-kind a-ket b w = kind-of-sort a-ket _ (hole-typed 0 b) w
-  of-kind a-bra b w = kind-of-sort a-bra _ (hole-typed 0 b) w
-  of-kind an-operator b w = kind-of-sort an-operator _ (hole-typed 0 b) w
+-- Where a type is asked for, the holes are typed: so the right side is filled as the rule asks, and the condition holds
+module _ {Γ : Context} (W : WellFormed Γ) (c : List Tree) where
+  hole-typed : AllTyped Γ c → (k : ℕ) → ltb k (length c) ≡ true → Γ ⊢ holes c k ∶ sortOf Γ (holes c k)
+  hole-typed all k b = let d = all k (ltb-true k (length c) b) in rw (sort-is W (d .1)) (d .1)
 
-equals-sound : {Γ : Context} → WellFormed Γ → {i j : ℕ} {t q : Tree} {S : Sort} (k : Kind) (l r : Pattern) → Good (k ⇒ l ▷ r) → Formed t → Γ ⊢ t ∶ S → i ≡ 0 → j ≡ 0
+  right-filled : (p : Pattern) → (asksNone p ≡ true) ⊎ AllTyped Γ c → below p (length c) ≡ true → Filled Γ (holes c) p (fill Γ (holes c) p)
+  unfolding below asksNone
+  right-filled (# k) o b = hole
+  right-filled (first k) (inl n) b = absurd (not-so n)
+  right-filled (first k) (inr all) b = first-of (hole-typed all k b)
+  right-filled (second k) (inl n) b = absurd (not-so n)
+  right-filled (second k) (inr all) b = second-of (hole-typed all k b)
+  right-filled (h ⟨⟩) o b = over-none
+  right-filled (h ⟨ p ⟩) o b = over-one (right-filled p o b)
+  right-filled (h ⟨ p ∣ q ⟩) (inl n) b =
+      let e = both (below p (length c)) (below q (length c)) b in
+      let m = both (asksNone p) (asksNone q) n in
+      over-two (right-filled p (inl (m .0)) (e .0)) (right-filled q (inl (m .1)) (e .1))
+  right-filled (h ⟨ p ∣ q ⟩) (inr all) b =
+      let e = both (below p (length c)) (below q (length c)) b in
+      over-two (right-filled p (inr all) (e .0)) (right-filled q (inr all) (e .1))
+
+  condition-holds : (k : Condition) → (ofWords k ≡ true) ⊎ AllTyped Γ c → asked k (length c) ≡ true → satisfied Γ k (holes c) ≡ true → Holds Γ k (holes c)
+  unfolding asked satisfied ofWords
+  condition-holds any o b w = tt
+  condition-holds a-ket (inl n) b w = absurd (not-so n)
+  condition-holds a-ket (inr all) b w = ket-of _ (hole-typed all 0 b) w
+  condition-holds a-bra (inl n) b w = absurd (not-so n)
+  condition-holds a-bra (inr all) b w = bra-of _ (hole-typed all 0 b) w
+  condition-holds an-operator (inl n) b w = absurd (not-so n)
+  condition-holds an-operator (inr all) b w = operator-of _ (hole-typed all 0 b) w
+  condition-holds unused o b w = w
+
+equals-sound : {Γ : Context} → WellFormed Γ → {i j : ℕ} {t q : Tree} {S : Sort} (k : Condition) (l r : Pattern) → Good (k ⇒ l ▷ r) → Formed t → Γ ⊢ t ∶ S → i ≡ 0 → j ≡ 0
     → filled Γ k r (match l t []) ≡ some q → Instance Γ (k ⇒ l ▷ r) i j t q
-unfolding good
 equals-sound {Γ} W {t} {S} k l r g h d a b e =
-    let o = all-three (inOrder l 0) (below r (met l 0)) (asked k (met l 0)) g in
+    let o = fine k l r g in
     let s = filled-some Γ k r (match l t []) e in
-    let m = matched Γ l t [] (s .0) (o .0) none-formed h (s .1) in
-    let all = m .typed W S d (λ k s. absurd (omega (arith, s))) in
+    let m = matched Γ l t [] (s .0) (o .order) none-formed h (s .1) in
+    let all : flat l ≡ true → AllTyped Γ (s .0) = λ f. m .typed f W S d (λ k s. absurd (omega (arith, s))) in
+    let x : ((ofWords k ≡ true) ⊎ AllTyped Γ (s .0)) × ((asksNone r ≡ true) ⊎ AllTyped Γ (s .0)) =
+    either (flat l) (ofWords k && asksNone r) (λ f. (inr (all f), inr (all f))) (λ n. let p = both (ofWords k) (asksNone r) n in (inl (p .0), inl (p .1))) (o .flat-or) in
     instance-at a b refl (s .3)
-    (equals (holes (s .0)) (m .fills (holes (s .0)) (λ k h. refl)) (right-filled (s .0) all r (rw (m .many) (o .1 .0))) (of-kind (s .0) all k (rw (m .many) (o .1 .1)) (s .2)))
+    (equals (holes (s .0)) (m .fills (holes (s .0)) (λ k h. refl)) (right-filled W (s .0) r (x .1) (rw (m .many) (o .below-holes)))
+    (condition-holds W (s .0) k (x .0) (rw (m .many) (o .asks)) (s .2)))
 
 -- a child of a formed node is formed
 child-formed : {f : Forest} (m : Label) (b : Forest) (t : Tree) (a : Forest) → Formed (node m f) → f ≡ b ⧺ t ▹ a → Formed t
@@ -208,10 +236,6 @@ absorbs-sound h z e (there b (node c f) a k n) x =
     instance-at n z (rw (k, ← e, ← y, l)) (cc (t .1)) (absorbs b a)
 
 -- merging and swapping
-pub either : {P : Type 0} (a b : Bool) → (a ≡ true → P) → (b ≡ true → P) → (a || b) ≡ true → P
-either true b x y e = x refl
-either false b x y e = y e
-
 chain-of : (m : Label) (f : Forest) → Formed (node m f) → isChain m (count f) ≡ true → Chain m
 unfolding isChain
 chain-of m f h =
@@ -285,6 +309,30 @@ unfolding collectAt
 collects-sound h z (too-far l) e = no-answer e
 collects-sound {i} h z (there b t a k n) e = before-sound t a h z k n (at b i) e
 
+-- distributing: a spreading over the second of two children
+two-children : (f : Forest) → Formed (node big-sum f) → count f ≡ 2
+unfolding Formed word heads reading
+two-children f h = let z = read-at 27 0 (omega arith) in let e : labelled big-sum 2 ≡ labelled big-sum (count f) = sym z ∙ h .0 in cc
+
+distributes-by : {Γ : Context} {l : Label} {i j : ℕ} {p q : Tree} → Sum l → Formed p → Instance Γ (spreading big-sum (child 1) l l) i j p q → Instance Γ distributing i j p q
+unfolding count _⧺_
+distributes-by x h (spreads none f a k) = absurd (omega (arith, k .1))
+distributes-by {l} x h (spreads (s ▹ none) f none k) = instance-at (k .0) refl refl refl (distributes s f x)
+distributes-by {l} x h (spreads (s ▹ none) f (t ▹ a) k) = absurd (omega (arith, two-children (s ▹ node l f ▹ t ▹ a) h))
+distributes-by x h (spreads (s ▹ t ▹ b) f a k) = absurd (omega (arith, k .1))
+
+or-some : {A : Type 0} {q : Tree} (x y : Option Tree) → (x ≡ some q → A) → (y ≡ some q → A) → orElse x y ≡ some q → A
+unfolding orElse
+or-some refused y f g e = g e
+or-some (some t) y f g e = f e
+
+distributes-sound : {Γ : Context} {m : Label} {i j : ℕ} {f : Forest} {q : Tree} {o : Opened} → Formed (node m f) → j ≡ 0 → usable (child 1) i ≡ true → big-sum ≡ m → At f (place (child 1) i) o
+    → distributeAt o ≡ some q → Instance Γ distributing i j (node m f) q
+unfolding distributeAt
+distributes-sound {o = o} h a u z x =
+    or-some (spreadAt big-sum scalar-sum scalar-sum o) (spreadAt big-sum add add o)
+    (λ e. distributes-by of-scalars h (spreads-sound {r = scalar-sum} refl h a u z x e)) (λ e. distributes-by of-arrays h (spreads-sound {r = add} refl h a u z x e))
+
 pub sound : {Γ : Context} → WellFormed Γ → {i j : ℕ} {q : Tree} {S : Sort} (r : Rule) (p : Tree) → Good r → Formed p → Γ ⊢ p ∶ S → rewrite Γ r i j p ≡ some q → Instance Γ r i j p q
 unfolding rewrite good
 sound W {i} {j} (k ⇒ l ▷ r) p g h t e =
@@ -316,3 +364,7 @@ sound W {i} {j} swapping (node m f) g h t e =
     let c = cond-some (eqb j 0 && isChain m (count f)) _ e in
     let b = both (eqb j 0) (isChain m (count f)) (c .0) in
     swaps-sound (eqb-true j 0 (b .0)) (chain-of m f h (b .1)) (at f i) (c .1)
+sound W {i} {j} distributing (node m f) g h t e =
+    let c = cond-some (eqb j 0 && (usable (child 1) i && isHead big-sum m (count f))) _ e in
+    let b = all-three (eqb j 0) (usable (child 1) i) (isHead big-sum m (count f)) (c .0) in
+    distributes-sound h (eqb-true j 0 (b .0)) (b .1 .0) (head-is big-sum m f refl h (b .1 .1)) (at f (place (child 1) i)) (c .1)

@@ -7,7 +7,7 @@ use Prim.Native.Nat.{ℕ}
 use native.Mathlib.Omega.{arith}
 use lib.Dec.{eqb}
 use Rattle.rules.specs.Patterns.{Pattern}
-use Rattle.rules.specs.Table.{Kind, Rule, _⇒_▷_, spreading, removing, absorbing, merging, collecting, swapping, Line, _∶_, table, find, ruleOf}
+use Rattle.rules.specs.Table.{Condition, Rule, _⇒_▷_, spreading, removing, absorbing, merging, collecting, swapping, distributing, Line, _∶_, table, find, ruleOf}
 
 -- one proof for each line, in the table's order
 abbrev pub Every : (Rule → Type 0) → List Line → Type 0
@@ -56,7 +56,8 @@ on-equations f absorbing = true
 on-equations f merging = true
 on-equations f (collecting u v) = true
 on-equations f swapping = true
+on-equations f distributing = true
 
-pub equation-passes : (f : Pattern → Pattern → Bool) → all-lines (on-equations f) table ≡ true → (n : ℕ) (k : Kind) (l r : Pattern) → ruleOf n ≡ some (k ⇒ l ▷ r) → f l r ≡ true
+pub equation-passes : (f : Pattern → Pattern → Bool) → all-lines (on-equations f) table ≡ true → (n : ℕ) (k : Condition) (l r : Pattern) → ruleOf n ≡ some (k ⇒ l ▷ r) → f l r ≡ true
 unfolding on-equations
 equation-passes f e n k l r rule = rule-passes (on-equations f) e n (k ⇒ l ▷ r) rule

@@ -1,16 +1,19 @@
 -- The rules that are no equations keep the sort of a typed part.
 use mathlib.Core.Path.{_≡_, refl, ap}
+use mathlib.Core.Bool.{false}
 use mathlib.Core.List.{List}
 use Prim.Native.Nat.{suc, _<_}
 use native.Mathlib.Omega.{arith}
-use Rattle.term.specs.Heads.{Label, scalar-zero, scalar-sum, scalar-product, scale, add}
+use Rattle.term.specs.Heads.{Label, scalar-zero, scalar-sum, scalar-product, scale, add, big-sum}
 use Rattle.term.specs.Trees.{Tree, Forest, node, none, _▹_, _⧺_, count}
 use Rattle.term.proofs.Parsing.{count-⧺}
 use Rattle.types.specs.Sorts.{Sort, scalar, Context}
-use Rattle.types.specs.Rules.{_⊢_∶_, _⊢*_∶_, every-none, every-more, sca-0, sca-1, sca-add, ket-scr, bra-scr, opt-scr, WellFormed}
+use Rattle.types.specs.Rules.{_⊢_∶_, _⊢*_∶_, every-none, every-more, sca-0, sca-1, sca-add, ket-scr, bra-scr, opt-scr, sum-over, WellFormed}
+use Rattle.types.specs.Inside.{binds}
+use Rattle.types.proofs.Indices.{later-same}
 use Rattle.types.proofs.Sound.{Each, each-more, node-of}
 use Rattle.rules.specs.Table.{Summand, plain, scaled}
-use Rattle.rules.specs.Instances.{Chain, sums, scalar-products, spread, summand, factor}
+use Rattle.rules.specs.Instances.{Chain, scalar-sums, sums, scalar-products, Sum, of-scalars, of-arrays, spread, summand, factor}
 use Rattle.rules.proofs.Forests.{Of, of-product, of-kets, of-bras, of-operators, every-⧺, around, chained, links}
 
 pub some-of : (f g : Forest) → 0 < count f → 0 < count (f ⧺ g)
@@ -84,6 +87,10 @@ collect-keeps u v b m e p q x d =
     let new = collected-typed u v p q x (k .of) (r .here) (s .here) in
     chained (k .of) (some-behind b _ (some-behind m _ (some-behind e _ (omega arith)))) (every-⧺ (r .front) (every-⧺ (s .front) (every-⧺ (s .back) (every-more new every-none))))
 
+pub sum-chain : {l : Label} → Sum l → Chain l
+sum-chain of-scalars = scalar-sums
+sum-chain of-arrays = sums
+
 -- ---- a child among others
 pub record Hole (Γ : Context) (l : Label) (b : Forest) (t : Tree) (a : Forest) (S : Sort) : Type 0 where
   pub sort : Sort
@@ -98,26 +105,35 @@ each-around (s ▹ b) t a ss (each-more {ss = rest} d xs) =
     let r = each-around b t a rest xs in
     (r .0, r .1, λ u e. each-more d (r .2 u e))
 
-pub hole-of : {Γ : Context} (W : WellFormed Γ) {l : Label} {S : Sort} (b : Forest) (t : Tree) (a : Forest) → Γ ⊢ node l (b ⧺ t ▹ a) ∶ S → Hole Γ l b t a S
-hole-of W b t a d =
+-- of a head that does not bind
+pub hole-of : {Γ : Context} (W : WellFormed Γ) {l : Label} {S : Sort} → binds l ≡ false → (b : Forest) (t : Tree) (a : Forest) → Γ ⊢ node l (b ⧺ t ▹ a) ∶ S → Hole Γ l b t a S
+hole-of {Γ} W {l} z b t a d =
     let n = node-of W d in
-    let r = each-around b t a (n .list) (n .each) in
-    record { sort = r .0; here = r .1; again = λ u e. n .again (b ⧺ u ▹ a) (r .2 u e) }
+    let e = later-same Γ l (b ⧺ t ▹ a) z in
+    let r = each-around b t a (n .list) (rw e at (n .each)) in
+    record { sort = r .0; here = r .1; again = λ u x. n .again (b ⧺ u ▹ a) (rw e (r .2 u x)) }
 
 pub count-spread : (l : Label) (b f a : Forest) → count (spread l b f a) ≡ count f
 unfolding count spread
 count-spread l b none a = refl
 count-spread l b (t ▹ f) a = ap suc (count-spread l b f a)
 
-pub spread-typed : {Γ : Context} {l : Label} {T S : Sort} (b : Forest) {f : Forest} (a : Forest) → ((u : Tree) → Γ ⊢ u ∶ T → Γ ⊢ node l (b ⧺ u ▹ a) ∶ S)
-    → Γ ⊢* f ∶ T → Γ ⊢* spread l b f a ∶ S
+pub spread-typed : {Γ Δ : Context} {l : Label} {T S : Sort} (b : Forest) {f : Forest} (a : Forest) → ((u : Tree) → Δ ⊢ u ∶ T → Γ ⊢ node l (b ⧺ u ▹ a) ∶ S)
+    → Δ ⊢* f ∶ T → Γ ⊢* spread l b f a ∶ S
 unfolding spread
 spread-typed b a again every-none = every-none
 spread-typed b a again (every-more d xs) = every-more (again _ d) (spread-typed b a again xs)
 
-pub spread-keeps : {Γ : Context} (W : WellFormed Γ) {l s r : Label} {S : Sort} (b f a : Forest) → Chain s → Of r S
+pub spread-keeps : {Γ : Context} (W : WellFormed Γ) {l s r : Label} {S : Sort} → binds l ≡ false → (b f a : Forest) → Chain s → Of r S
     → Γ ⊢ node l (b ⧺ node s f ▹ a) ∶ S → Γ ⊢ node r (spread l b f a) ∶ S
-spread-keeps W {l} {s} b f a c o d =
-    let h = hole-of W b (node s f) a d in
+spread-keeps W {l} {s} z b f a c o d =
+    let h = hole-of W z b (node s f) a d in
     let k = links c (h .here) in
     chained o (rw (count-spread l b f a) (k .some)) (spread-typed b a (h .again) (k .every))
+
+-- a sum over a basis has the sort of its body, and so has each over a summand of it
+pub distribute-keeps : {Γ : Context} {l : Label} {S : Sort} (s : Tree) (f : Forest) → Sum l → Γ ⊢ node big-sum (s ▹ node l f ▹ none) ∶ S → Γ ⊢ node l (spread big-sum (s ▹ none) f none) ∶ S
+unfolding _⧺_
+distribute-keeps {l} s f x (sum-over a d h n) =
+    let k = links (sum-chain x) d in
+    chained (k .of) (rw (count-spread big-sum (s ▹ none) f none) (k .some)) (spread-typed (s ▹ none) none (λ u e. sum-over a e h n) (k .every))

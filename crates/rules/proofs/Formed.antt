@@ -1,6 +1,6 @@
 -- A typed tree within the limits of a step is a term: of the table's form, with declared names. A term of document 01's form is within these limits.
 use mathlib.Core.Path.{_≡_, refl, _∙_}
-use mathlib.Core.Bool.{true, cond, and-eq-true-iff}
+use mathlib.Core.Bool.{Bool, true, false, cond, and-eq-true-iff}
 use mathlib.Core.List.{List, [], _∷_}
 use mathlib.Core.Option.{some}
 use Prim.Native.Nat.{ℕ, zero, suc, _+_, _*_, _≤_, _<_}
@@ -11,21 +11,18 @@ use lib.Arith.{digits-div, digits-mod}
 use lib.Dec.{eqb, leb, eqb·suc-zero}
 use lib.ListN.{length, getD, getElem?}
 use Rattle.term.specs.declared.terms.Names.{Names}
-use Rattle.term.specs.Heads.{Label, type-name, basis-name, variable, scalar-sum, scalar-product, add, unknown, labelled, heads, reading, word, read}
+use Rattle.term.specs.Heads.{Label, type-name, basis-name, variable, scalar-sum, scalar-product, add, bound-basis, unknown, labelled, heads, reading, word, read}
 use Rattle.term.specs.Trees.{Tree, Forest, node, none, _▹_, count, words, words*, Formed, Formed*}
 use Rattle.term.specs.Terms.{maxWords, maxChildren, maxNames, known, declared, allDeclared, IsTerm}
 use Rattle.term.proofs.Readings.{read-at, read-few}
 use Rattle.term.proofs.Names.{declared-++}
 use Rattle.types.specs.Sorts.{Sort, Context, countsOf}
-use Rattle.types.specs.Rules.{_⊢_∶_, type-var, basis-var, term-var, sca-0, sca-1, sca-delta, sca-add, sca-mul, sca-conj, sca-dot, base-prod, pair-base, ket-0, ket-base, ket-adj, ket-scr, ket-add, ket-mulk, ket-tsr, bra-0, bra-base, bra-adj, bra-scr, bra-add, bra-mulb, bra-tsr, opt-0, opt-1, opt-adj, opt-scr, opt-add, opt-outer, opt-mulo, opt-tsr, WellFormed}
-use Rattle.types.proofs.Sound.{Each, each-none, each-more, node-of}
+use Rattle.types.specs.Inside.{binds, behindFirst, later}
+use Rattle.types.specs.Rules.{_⊢_∶_, type-var, basis-var, term-var, sca-0, sca-1, sca-delta, sca-add, sca-mul, sca-conj, sca-dot, base-prod, pair-base, ket-0, ket-base, ket-adj, ket-scr, ket-add, ket-mulk, ket-tsr, bra-0, bra-base, bra-adj, bra-scr, bra-add, bra-mulb, bra-tsr, opt-0, opt-1, opt-adj, opt-scr, opt-add, opt-outer, opt-mulo, opt-tsr, bound-var, sum-over, WellFormed}
+use Rattle.types.proofs.Sound.{Row, each-none, each-more, node-of}
+use Rattle.types.proofs.Indices.{later-well}
+use Rattle.types.proofs.Strays.{below}
 use Rattle.rules.specs.Steps.{few, few*, within}
-
--- an item that a list has is below its length
-below : {A : Type 0} (xs : List A) (a : ℕ) {x : A} → getElem? xs a ≡ some x → a < length xs
-below [] a e = absurd (let z : _≡_ {A = ℕ} 0 1 = cc in omega arith)
-below (y ∷ xs) zero e = omega arith
-below (y ∷ xs) (suc a) e = let r = below xs a e in omega arith
 
 -- ---- what a node's word says of the node: it reads back, and its name is declared
 record Node (N : Names) (l : Label) (n : ℕ) : Type 0 where
@@ -65,6 +62,10 @@ module _ (N : Names) where
   unfolding word heads reading
   variable-node a h e = node-at (variable a) 26 a 0 h refl refl e
 
+  bound-node : (a : ℕ) → a < 256 → Node N (bound-basis a) 0
+  unfolding word heads reading
+  bound-node a h = node-at (bound-basis a) 28 a 0 h refl refl refl
+
   sum-node : (n : ℕ) → suc n ≤ 255 → Node N scalar-sum (suc n)
   unfolding word heads reading
   sum-node n h = node-at scalar-sum 7 (suc n) (suc n) (omega arith) refl (rw eqb·suc-zero) refl
@@ -86,16 +87,29 @@ few-more : (t : Tree) (f : Forest) → few* (t ▹ f) ≡ true → (few t ≡ tr
 unfolding few
 few-more t f h = and-eq-true-iff (few t) _ .0 h
 
-module _ {Γ : Context} (W : WellFormed Γ) (N : Names) (p : Γ .types ≤ N .types) (q : length (Γ .bases) ≤ N .bases) (r : length (Γ .variables) ≤ N .variables) where
+-- at least the names of a context are declared
+abbrev Declared : Names → Context → Type 0
+Declared N Γ = (Γ .types ≤ N .types) × (length (Γ .bases) ≤ N .bases) × (length (Γ .variables) ≤ N .variables)
+
+later-declared : (N : Names) (Γ : Context) (l : Label) (cs : Forest) → Declared N Γ → Declared N (later Γ l cs)
+unfolding later behindFirst
+later-declared N Γ l cs x = go (binds l) cs
+  where
+    go : (b : Bool) (cs : Forest) → Declared N (cond b (behindFirst Γ cs) Γ)
+    go true none = x
+    go true (s ▹ f) = x
+    go false cs = x
+
+module _ {Γ : Context} (W : WellFormed Γ) (N : Names) (x : Declared N Γ) where
   -- by the rules, a typed node has the children that its head wants, and a declared name; a counted head has from 1, and here to 255
   typed-node : {l : Label} {cs : Forest} {S : Sort} → Γ ⊢ node l cs ∶ S → count cs ≤ 255 → Node N l (count cs)
   unfolding word read heads reading declared count
-  typed-node (type-var {a} h) k = type-node N a (omega (arith, W .types)) (known-below a (Γ .types) (N .types) h p (W .types))
+  typed-node (type-var {a} h) k = type-node N a (omega (arith, W .types)) (known-below a (Γ .types) (N .types) h (x .0) (W .types))
   typed-node (basis-var {a} e) k =
-      let h = below (Γ .bases) a e in basis-node N a (omega (arith, W .bases)) (known-below a (length (Γ .bases)) (N .bases) h q (W .bases))
+      let h = below (Γ .bases) a e in basis-node N a (omega (arith, W .bases)) (known-below a (length (Γ .bases)) (N .bases) h (x .1) (W .bases))
   typed-node (term-var {a} e) k =
       let h = below (Γ .variables) a e in
-      variable-node N a (omega (arith, W .variables)) (known-below a (length (Γ .variables)) (N .variables) h r (W .variables))
+      variable-node N a (omega (arith, W .variables)) (known-below a (length (Γ .variables)) (N .variables) h (x .2) (W .variables))
   typed-node sca-0 k = plain refl refl
   typed-node sca-1 k = plain refl refl
   typed-node (sca-delta a b) k = plain refl refl
@@ -127,32 +141,41 @@ module _ {Γ : Context} (W : WellFormed Γ) (N : Names) (p : Γ .types ≤ N .ty
   typed-node (opt-outer a b) k = plain refl refl
   typed-node (opt-mulo a b) k = plain refl refl
   typed-node (opt-tsr a b h l) k = plain refl refl
+  typed-node (bound-var {a} b e d) k = bound-node N a (omega arith)
+  typed-node (sum-over a b h n) k = plain refl refl
 
-  -- so at each node of the tree: the children are typed, and few
+-- so at each node of the tree: the children are typed, and few
+module _ (N : Names) where
   mutual
     unfolding Formed
 
-    tree-formed : (t : Tree) {S : Sort} → Γ ⊢ t ∶ S → few t ≡ true → Formed t
-    tree-formed (node l cs) d h = let e = few-node l cs h in (typed-node d (e .0) .formed, forest-formed cs (node-of W d .each) (e .1))
+    tree-formed : {Γ : Context} → WellFormed Γ → Declared N Γ → (t : Tree) {S : Sort} → Γ ⊢ t ∶ S → few t ≡ true → Formed t
+    tree-formed {Γ} W x (node l cs) d h =
+        let e = few-node l cs h in
+        (typed-node W N x d (e .0) .formed, forest-formed W (later-well W l cs) x (later-declared N Γ l cs x) cs (node-of W d .each) (e .1))
 
-    forest-formed : (f : Forest) {ss : List Sort} → Each Γ f ss → few* f ≡ true → Formed* f
-    forest-formed none each-none h = tt
-    forest-formed (t ▹ f) (each-more a d) h = let e = few-more t f h in (tree-formed t a (e .0), forest-formed f d (e .1))
+    forest-formed : {Γ Δ : Context} → WellFormed Γ → WellFormed Δ → Declared N Γ → Declared N Δ → (f : Forest) {ss : List Sort} → Row f ss Γ Δ → few* f ≡ true → Formed* f
+    forest-formed W X x y none each-none h = tt
+    forest-formed W X x y (t ▹ f) (each-more a d) h = let e = few-more t f h in (tree-formed W x t a (e .0), forest-formed X X y y f d (e .1))
 
   mutual
     unfolding words allDeclared
 
-    tree-declared : (t : Tree) {S : Sort} → Γ ⊢ t ∶ S → few t ≡ true → allDeclared N (words t) ≡ true
-    tree-declared (node l cs) d h = let e = few-node l cs h in rw (typed-node d (e .0) .named) (forest-declared cs (node-of W d .each) (e .1))
+    tree-declared : {Γ : Context} → WellFormed Γ → Declared N Γ → (t : Tree) {S : Sort} → Γ ⊢ t ∶ S → few t ≡ true → allDeclared N (words t) ≡ true
+    tree-declared {Γ} W x (node l cs) d h =
+        let e = few-node l cs h in
+        rw (typed-node W N x d (e .0) .named) (forest-declared W (later-well W l cs) x (later-declared N Γ l cs x) cs (node-of W d .each) (e .1))
 
-    forest-declared : (f : Forest) {ss : List Sort} → Each Γ f ss → few* f ≡ true → allDeclared N (words* f) ≡ true
-    forest-declared none each-none h = refl
-    forest-declared (t ▹ f) (each-more a d) h =
-        let e = few-more t f h in rw (declared-++ N (words t) (words* f), tree-declared t a (e .0)) (forest-declared f d (e .1))
+    forest-declared : {Γ Δ : Context} → WellFormed Γ → WellFormed Δ → Declared N Γ → Declared N Δ → (f : Forest) {ss : List Sort} → Row f ss Γ Δ → few* f ≡ true
+        → allDeclared N (words* f) ≡ true
+    forest-declared W X x y none each-none h = refl
+    forest-declared W X x y (t ▹ f) (each-more a d) h =
+        let e = few-more t f h in rw (declared-++ N (words t) (words* f), tree-declared W x t a (e .0)) (forest-declared X X y y f d (e .1))
 
+module _ {Γ : Context} (W : WellFormed Γ) (N : Names) (p : Γ .types ≤ N .types) (q : length (Γ .bases) ≤ N .bases) (r : length (Γ .variables) ≤ N .variables) where
   -- every name in a typed tree is declared
   pub typed-declared : {t : Tree} {S : Sort} → Γ ⊢ t ∶ S → few t ≡ true → allDeclared N (words t) ≡ true
-  typed-declared {t} d h = tree-declared t d h
+  typed-declared {t} d h = tree-declared N W (p, q, r) t d h
 
   -- a typed tree within the limits of a step is a term
   pub within-term : {t : Tree} {S : Sort} → Γ ⊢ t ∶ S → within t ≡ true → IsTerm N t
@@ -160,13 +183,13 @@ module _ {Γ : Context} (W : WellFormed Γ) (N : Names) (p : Γ .types ≤ N .ty
   within-term {t} d h =
       let e = and-eq-true-iff (few t) _ .0 h in
       let s = and-eq-true-iff (leb (length (words t)) maxWords) _ .0 (e .1) in
-      record { formed = tree-formed t d (e .0); short = leb-true _ _ (s .0); shallow = leb-true _ _ (s .1); named = tree-declared t d (e .0) }
+      record { formed = tree-formed N W (p, q, r) t d (e .0); short = leb-true _ _ (s .0); shallow = leb-true _ _ (s .1); named = tree-declared N W (p, q, r) t d (e .0) }
 
 -- ---- the same with the context's own counts
 module _ {Γ : Context} (W : WellFormed Γ) where
   -- a typed tree with few children at each node is of the table's form
   pub typed-formed : {t : Tree} {S : Sort} → Γ ⊢ t ∶ S → few t ≡ true → Formed t
-  typed-formed {t} d h = tree-formed W (countsOf Γ) (le-refl _) (le-refl _) (le-refl _) t d h
+  typed-formed {t} d h = tree-formed (countsOf Γ) W (le-refl _, le-refl _, le-refl _) t d h
 
   pub typed-declared-own : {t : Tree} {S : Sort} → Γ ⊢ t ∶ S → few t ≡ true → allDeclared (countsOf Γ) (words t) ≡ true
   typed-declared-own d h = typed-declared W (countsOf Γ) (le-refl _) (le-refl _) (le-refl _) d h

@@ -9,6 +9,7 @@ mod Gathered
 pub mod FamilyMeanings
 mod Additive
 pub mod Spreading
+mod Summing
 pub mod Every
 pub mod AllTypes
 pub mod AllMeanings

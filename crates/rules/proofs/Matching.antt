@@ -1,12 +1,12 @@
 -- `match` finds what the holes of a left side hold: all of them, and nothing else.
 use mathlib.Core.Path.{_≡_, refl, sym, _∙_, ap}
-use mathlib.Core.Bool.{Bool, true, false, cond}
+use mathlib.Core.Bool.{Bool, true, false, cond, not}
 use mathlib.Core.List.{List, [], _∷_, _++_}
 use mathlib.Core.Option.{Option, some, none as refused}
 use Prim.Native.Nat.{ℕ, zero, suc, _≤_, _<_}
 use native.Mathlib.Decide.{decLt}
 use native.Mathlib.Omega.{arith}
-use borrow.Author.Tests.{eq-eqb, ne-eqb, leb-true, ltb-true}
+use borrow.Author.Tests.{eq-eqb, ne-eqb, leb-true, ltb-true, not-true}
 use lib.ListN.{length, length-append}
 use Rattle.words.specs.Words.{sameWords}
 use Rattle.words.proofs.Runs.{same-words, same-words-eq}
@@ -15,13 +15,15 @@ use Rattle.term.specs.Trees.{Tree, Forest, node, none, _▹_, count, words, For
 use Rattle.term.proofs.Readings.{read-at}
 use Rattle.term.proofs.Theorems.{one-reading}
 use Rattle.types.specs.Sorts.{Sort, Context}
+use Rattle.types.specs.Inside.{binds}
 use Rattle.types.specs.Rules.{_⊢_∶_, WellFormed}
-use Rattle.types.proofs.Sound.{Each, each-more, node-of}
+use Rattle.types.proofs.Sound.{Row, each-more, node-of}
+use Rattle.types.proofs.Indices.{later-same}
 use Rattle.rules.specs.Patterns.{Pattern, #_, first, second, _⟨⟩, _⟨_⟩, _⟨_∣_⟩}
 use Rattle.rules.specs.Instances.{Filled, hole, over-none, over-one, over-two}
 use Rattle.rules.specs.Rewrite.{nameless, isHead, fill, andThen, hold, match, holes}
-use Rattle.rules.proofs.Known.{is-head, head-is}
-use Rattle.rules.proofs.Good.{met, inOrder, below, both, all-three}
+use Rattle.rules.proofs.Known.{is-head, head-is, leaf-is}
+use Rattle.rules.proofs.Good.{met, inOrder, below, flat, both, all-three}
 
 -- ---- one more hole
 holes-before : (c : List Tree) (t : Tree) (k : ℕ) → k < length c → holes (c ++ t ∷ []) k ≡ holes c k
@@ -142,10 +144,10 @@ typed-more [] t S a d (suc k) h = absurd (omega (arith, h))
 typed-more (u ∷ c) t S a d zero h = a 0 (omega arith)
 typed-more (u ∷ c) t S a d (suc k) h = typed-more c t S (λ j l. a (suc j) (omega (arith, l))) d k (omega (arith, h))
 
-first-typed : {Γ : Context} {t : Tree} {f : Forest} {ss : List Sort} → Each Γ (t ▹ f) ss → (S : Sort) × (Γ ⊢ t ∶ S)
+first-typed : {Γ Δ : Context} {t : Tree} {f : Forest} {ss : List Sort} → Row (t ▹ f) ss Γ Δ → (S : Sort) × (Γ ⊢ t ∶ S)
 first-typed (each-more {S} d x) = (S, d)
 
-second-typed : {Γ : Context} {t u : Tree} {f : Forest} {ss : List Sort} → Each Γ (t ▹ u ▹ f) ss → (S : Sort) × (Γ ⊢ u ∶ S)
+second-typed : {Γ Δ : Context} {t u : Tree} {f : Forest} {ss : List Sort} → Row (t ▹ u ▹ f) ss Γ Δ → (S : Sort) × (Δ ⊢ u ∶ S)
 second-typed (each-more d x) = first-typed x
 
 pub record Matched (Γ : Context) (l : Pattern) (t : Tree) (c d : List Tree) : Type 0 where
@@ -154,7 +156,7 @@ pub record Matched (Γ : Context) (l : Pattern) (t : Tree) (c d : List Tree) : T
   pub keeps : (k : ℕ) → k < length c → holes d k ≡ holes c k
   pub formed : AllFormed d
   pub fills : (θ : ℕ → Tree) → Agrees θ d → Filled Γ θ l t
-  pub typed : WellFormed Γ → (S : Sort) → Γ ⊢ t ∶ S → AllTyped Γ c → AllTyped Γ d
+  pub typed : flat l ≡ true → WellFormed Γ → (S : Sort) → Γ ⊢ t ∶ S → AllTyped Γ c → AllTyped Γ d
 
 hole-at : {Γ : Context} {θ : ℕ → Tree} {t : Tree} (k : ℕ) → θ k ≡ t → Filled Γ θ (# k) t
 hole-at k e = rw (← e) hole
@@ -171,7 +173,7 @@ module _ (Γ : Context) where
         keeps = holes-before c t;
         formed = formed-more c t f h;
         fills = λ θ a. hole-at (length c) (sym (a (length c) (omega (arith, one-more c t))) ∙ holes-last c t);
-        typed = λ W S p a. typed-more c t S a p;
+        typed = λ o W S p a. typed-more c t S a p;
       }
 
   matched-old : (k : ℕ) (t : Tree) (c d : List Tree) → k < length c → AllFormed c → Formed t → hold k t c ≡ some d → Matched Γ (# k) t c d
@@ -186,7 +188,7 @@ module _ (Γ : Context) where
         keeps = λ k h. refl;
         formed = f;
         fills = λ θ a. hole-at k (sym (a k l) ∙ same-part (holes c k) t (f k) h (r .0));
-        typed = λ W S p a. a;
+        typed = λ o W S p a. a;
       }
 
   matched-hole : (k : ℕ) (t : Tree) (c d : List Tree) → k ≤ length c → AllFormed c → Formed t → hold k t c ≡ some d → Matched Γ (# k) t c d
@@ -197,23 +199,25 @@ module _ (Γ : Context) where
 
   matched-none : (l m : Label) (c : List Tree) → l ≡ m → AllFormed c → Matched Γ (l ⟨⟩) (node m none) c c
   unfolding met
-  matched-none l m c z f = record { many = refl; longer = omega arith; keeps = λ k h. refl; formed = f; fills = λ θ a. rw z over-none; typed = λ W S p a. a }
+  matched-none l m c z f = record { many = refl; longer = omega arith; keeps = λ k h. refl; formed = f; fills = λ θ a. rw z over-none; typed = λ o W S p a. a }
 
   matched-one : (l m : Label) (p : Pattern) (t : Tree) (c d : List Tree) → l ≡ m → Matched Γ p t c d → Matched Γ (l ⟨ p ⟩) (node m (t ▹ none)) c d
-  unfolding met
+  unfolding met flat
   matched-one l m p t c d z x = record {
     many = x .many;
     longer = x .longer;
     keeps = x .keeps;
     formed = x .formed;
     fills = λ θ a. rw z (over-one (x .fills θ a));
-    typed = λ W S p. let e = first-typed (node-of W p .each) in x .typed W (e .0) (e .1);
+    typed = λ o W S q.
+        let b = both (not (binds l)) (flat p) o in
+        let e = first-typed (node-of W q .each) in x .typed (b .1) W (e .0) (e .1);
   }
 
   -- the holes of the first child are still held behind the second
   matched-two : (l m : Label) (p q : Pattern) (t u : Tree) (c d e : List Tree) → l ≡ m → Matched Γ p t c d → Matched Γ q u d e
       → Matched Γ (l ⟨ p ∣ q ⟩) (node m (t ▹ u ▹ none)) c e
-  unfolding met
+  unfolding met flat
   matched-two l m p q t u c d e z x y = record {
     many = rw (x .many) at (y .many);
     longer = omega (arith, x .longer, y .longer);
@@ -222,9 +226,11 @@ module _ (Γ : Context) where
     fills = λ θ a.
         let s = x .fills θ (λ k h. sym (y .keeps k h) ∙ a k (omega (arith, h, y .longer))) in
         rw z (over-two s (y .fills θ a));
-    typed = λ W S p a.
-        let e = first-typed (node-of W p .each) in
-        let g = second-typed (node-of W p .each) in y .typed W (g .0) (g .1) (x .typed W (e .0) (e .1) a);
+    typed = λ o W S w a.
+        let b = all-three (not (binds l)) (flat p) (flat q) o in
+        let r = rw (later-same Γ m (t ▹ u ▹ none) (rw z at (not-true (binds l) (b .0)))) at (node-of W w .each) in
+        let e = first-typed r in
+        let g = second-typed r in y .typed (b .1 .1) W (g .0) (g .1) (x .typed (b .1 .0) W (e .0) (e .1) a);
   }
 
   pub matched : (l : Pattern) (t : Tree) (c d : List Tree) → inOrder l (length c) ≡ true → AllFormed c → Formed t → match l t c ≡ some d → Matched Γ l t c d
@@ -235,7 +241,7 @@ module _ (Γ : Context) where
   matched (l ⟨⟩) (node m none) c d o f h e =
       let r = cond-some (isHead l m 0) (some c) e in
       let z : c ≡ d = cc (r .1) in
-      rw (← z) (matched-none l m c (head-is l m none o h (r .0)) f)
+      rw (← z) (matched-none l m c (leaf-is l m o h (r .0)) f)
   matched (l ⟨⟩) (node m (t ▹ g)) c d o f h e = no-answer e
   matched (l ⟨ p ⟩) (node m none) c d o f h e = no-answer e
   matched (l ⟨ p ⟩) (node m (t ▹ none)) c d o f h e =

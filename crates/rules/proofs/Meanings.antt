@@ -43,16 +43,16 @@ module _ {R : Type 0} {𝓐 : Arithmetic R} (𝓡 : StarSemiring 𝓐) {Γ : Con
   second-dimension S = stands 𝓐 Γ χ (secondIndex S) .dimension
 
   ket-rows : {t σ : Tree} → Γ ⊢ t ∶ ket σ → stands 𝓐 Γ χ t .matrix .rows ≡ first-dimension (sortOf Γ t)
-  ket-rows a = its a .rows ∙ sym (ap first-dimension (sort-is Γ a) ∙ its (proper W a))
+  ket-rows a = its a .rows ∙ sym (ap first-dimension (sort-is W a) ∙ its (proper W a))
 
   bra-columns : {t σ : Tree} → Γ ⊢ t ∶ bra σ → stands 𝓐 Γ χ t .matrix .columns ≡ first-dimension (sortOf Γ t)
-  bra-columns a = its a .columns ∙ sym (ap first-dimension (sort-is Γ a) ∙ its (proper W a))
+  bra-columns a = its a .columns ∙ sym (ap first-dimension (sort-is W a) ∙ its (proper W a))
 
   operator-rows : {t σ τ : Tree} → Γ ⊢ t ∶ operator σ τ → stands 𝓐 Γ χ t .matrix .rows ≡ first-dimension (sortOf Γ t)
-  operator-rows a = its a .rows ∙ sym (ap first-dimension (sort-is Γ a) ∙ its (proper W a .0))
+  operator-rows a = its a .rows ∙ sym (ap first-dimension (sort-is W a) ∙ its (proper W a .0))
 
   operator-columns : {t σ τ : Tree} → Γ ⊢ t ∶ operator σ τ → stands 𝓐 Γ χ t .matrix .columns ≡ second-dimension (sortOf Γ t)
-  operator-columns a = its a .columns ∙ sym (ap second-dimension (sort-is Γ a) ∙ its (proper W a .1))
+  operator-columns a = its a .columns ∙ sym (ap second-dimension (sort-is W a) ∙ its (proper W a .1))
 
   -- ---- table 2
   pub means-2 : Means Γ 𝓡 χ 2
@@ -156,8 +156,8 @@ module _ {R : Type 0} {𝓐 : Arithmetic R} (𝓡 : StarSemiring 𝓐) {Γ : Con
   pub means-43 : Means Γ 𝓡 χ 43
   unfolding value
   means-43 θ S k (ket-scr sca-0 a) = scale-0 𝓡 _ (ket-rows a) (its a .columns)
-  means-43 θ S k (bra-scr sca-0 a) = absurd (not-so (rw (sort-is Γ a) at k))
-  means-43 θ S k (opt-scr sca-0 a) = absurd (not-so (rw (sort-is Γ a) at k))
+  means-43 θ S k (bra-scr sca-0 a) = absurd (not-so (rw (sort-is W a) at k))
+  means-43 θ S k (opt-scr sca-0 a) = absurd (not-so (rw (sort-is W a) at k))
 
   pub means-44 : Means Γ 𝓡 χ 44
   unfolding value
@@ -165,9 +165,9 @@ module _ {R : Type 0} {𝓐 : Arithmetic R} (𝓡 : StarSemiring 𝓐) {Γ : Con
 
   pub means-45 : Means Γ 𝓡 χ 45
   unfolding value
-  means-45 θ S k (ket-scr sca-0 a) = absurd (not-so (rw (sort-is Γ a) at k))
+  means-45 θ S k (ket-scr sca-0 a) = absurd (not-so (rw (sort-is W a) at k))
   means-45 θ S k (bra-scr sca-0 a) = scale-0 𝓡 _ (its a .rows) (bra-columns a)
-  means-45 θ S k (opt-scr sca-0 a) = absurd (not-so (rw (sort-is Γ a) at k))
+  means-45 θ S k (opt-scr sca-0 a) = absurd (not-so (rw (sort-is W a) at k))
 
   pub means-46 : Means Γ 𝓡 χ 46
   unfolding value
@@ -175,8 +175,8 @@ module _ {R : Type 0} {𝓐 : Arithmetic R} (𝓡 : StarSemiring 𝓐) {Γ : Con
 
   pub means-47 : Means Γ 𝓡 χ 47
   unfolding value
-  means-47 θ S k (ket-scr sca-0 a) = absurd (not-so (rw (sort-is Γ a) at k))
-  means-47 θ S k (bra-scr sca-0 a) = absurd (not-so (rw (sort-is Γ a) at k))
+  means-47 θ S k (ket-scr sca-0 a) = absurd (not-so (rw (sort-is W a) at k))
+  means-47 θ S k (bra-scr sca-0 a) = absurd (not-so (rw (sort-is W a) at k))
   means-47 θ S k (opt-scr sca-0 a) = scale-0 𝓡 _ (operator-rows a) (operator-columns a)
 
   pub means-48 : Means Γ 𝓡 χ 48

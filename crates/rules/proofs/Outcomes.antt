@@ -11,7 +11,8 @@ use Rattle.term.specs.Trees.{Tree, words, Formed, Subtree, outside, found, subt
 use Rattle.term.proofs.Places.{place, subtree-formed}
 use Rattle.types.specs.Sorts.{Sort, Context}
 use Rattle.types.specs.Rules.{_⊢_∶_, WellFormed}
-use Rattle.types.proofs.Replace.{part-typed}
+use Rattle.types.proofs.Replace.{part-typed, inside-well}
+use Rattle.types.specs.Inside.{inside}
 use Rattle.rules.specs.Table.{Rule, ruleOf}
 use Rattle.rules.specs.Instances.{Instance}
 use Rattle.rules.specs.Rewrite.{rewrite}
@@ -23,19 +24,23 @@ module _ (D : Decides) (Γ : Context) (W : WellFormed Γ) (S : Sort) (t : Tree) 
   abbrev Is : Stepped → Type 0
   Is o = Outcome Γ t s (o .code) (o .tree)
 
+  -- the context at the place
+  abbrev Δ : Context
+  Δ = inside Γ t (s .place)
+
   -- ---- the tests, from the last to the first
   by-limits : {r : Rule} {p q : Tree} (b : Bool) → within (replace t (s .place) q) ≡ b → ruleOf (s .rule) ≡ some r → subtree t (s .place) ≡ found p
-      → Instance Γ r (s .i) (s .j) p q → Is (cond b (record { code = 0; tree = replace t (s .place) q }) (record { code = 23; tree = t }))
+      → Instance Δ r (s .i) (s .j) p q → Is (cond b (record { code = 0; tree = replace t (s .place) q }) (record { code = 23; tree = t }))
   by-limits {r} {p} {q} true w e f x = good _ (record { r = r; rule = e; part = p; there = f; new = q; is = x; result = refl; limits = w })
   by-limits false w e f x = too-big e f x w
 
   decided : {r : Rule} {p : Tree} (q : Tree) → ruleOf (s .rule) ≡ some r → subtree t (s .place) ≡ found p
-      → (rewrite Γ r (s .i) (s .j) p ≡ some q) ↔ Instance Γ r (s .i) (s .j) p q
+      → (rewrite Δ r (s .i) (s .j) p ≡ some q) ↔ Instance Δ r (s .i) (s .j) p q
   decided {r} {p} q e f =
       let d = part-typed W t (s .place) p S typed f in
-      D Γ W (s .rule) r e (s .i) (s .j) p q (subtree-formed t (s .place) p formed f) (d .0) (d .1)
+      D Δ (inside-well W t (s .place)) (s .rule) r e (s .i) (s .j) p q (subtree-formed t (s .place) p formed f) (d .0) (d .1)
 
-  by-part : {r : Rule} {p : Tree} (o : Option Tree) → rewrite Γ r (s .i) (s .j) p ≡ o → ruleOf (s .rule) ≡ some r → subtree t (s .place) ≡ found p → Is (atPart Γ t s o)
+  by-part : {r : Rule} {p : Tree} (o : Option Tree) → rewrite Δ r (s .i) (s .j) p ≡ o → ruleOf (s .rule) ≡ some r → subtree t (s .place) ≡ found p → Is (atPart Γ t s o)
   unfolding atPart limited
   by-part none g e f = no-instance e f λ q x. absurd (let h = decided q e f .1 x in let z : _≡_ {A = ℕ} 0 1 = cc in omega arith)
   by-part (some q) g e f = by-limits (within (replace t (s .place) q)) refl e f (decided q e f .0 g)
@@ -47,7 +52,7 @@ module _ (D : Decides) (Γ : Context) (W : WellFormed Γ) (S : Sort) (t : Tree) 
         | yes h ↦ absurd (let w = place t (s .place) h .is in let z : _≡_ {A = ℕ} 0 1 = cc in omega arith)
         | no h ↦ no-place e (omega arith)
       ]
-  by-place {r} (found p) f e = by-part (rewrite Γ r (s .i) (s .j) p) refl e f
+  by-place {r} (found p) f e = by-part (rewrite Δ r (s .i) (s .j) p) refl e f
 
   by-rule : (o : Option Rule) → ruleOf (s .rule) ≡ o → Is (byRule Γ t s o)
   unfolding byRule

@@ -3,13 +3,13 @@ use mathlib.Core.Path.{_≡_, refl}
 use mathlib.Core.Bool.{Bool, true, false}
 use mathlib.Core.Option.{some}
 use Prim.Native.Nat.{ℕ}
-use Rattle.term.specs.Heads.{Label, type-name, basis-name, variable, index-product, pair, scalar-zero, scalar-one, scalar-sum, scalar-product, conjugate, delta, dot, zero-ket, zero-bra, zero-operator, identity, basis-ket, basis-bra, adjoint, scale, add, tensor, mulk, mulb, outer, mulo}
+use Rattle.term.specs.Heads.{Label, type-name, basis-name, variable, index-product, pair, scalar-zero, scalar-one, scalar-sum, scalar-product, conjugate, delta, dot, zero-ket, zero-bra, zero-operator, identity, basis-ket, basis-bra, adjoint, scale, add, tensor, mulk, mulb, outer, mulo, big-sum, bound-basis}
 use Rattle.term.specs.Trees.{Tree, Forest, node}
-use Rattle.types.specs.Sorts.{Sort, index, basis, scalar, ket, bra, operator, Context}
-use Rattle.types.specs.Rules.{_⊢_∶_, type-var, basis-var, term-var, base-prod, pair-base, IsType, WellFormed}
+use Rattle.types.specs.Sorts.{Sort, index, basis, scalar, ket, bra, operator, IsType, Context}
+use Rattle.types.specs.Rules.{_⊢_∶_, type-var, basis-var, term-var, base-prod, pair-base, bound-var, sum-over, WellFormed}
 use Rattle.rules.specs.Patterns.{Pattern, #_, first, second, _⟨⟩, _⟨_⟩, _⟨_∣_⟩}
-use Rattle.rules.specs.Table.{Rule, _⇒_▷_, spreading, removing, absorbing, merging, collecting, swapping, ruleOf}
-use Rattle.rules.specs.Instances.{Chain, scalar-sums, scalar-products, sums, Filled, hole, first-of, second-of, over-none, over-one, over-two, Instance, equals, spreads, removes, absorbs, merges, collects, swaps}
+use Rattle.rules.specs.Table.{Rule, _⇒_▷_, spreading, removing, absorbing, merging, collecting, swapping, distributing, ruleOf}
+use Rattle.rules.specs.Instances.{Chain, scalar-sums, scalar-products, sums, Filled, hole, first-of, second-of, over-none, over-one, over-two, Instance, equals, spreads, removes, absorbs, merges, collects, swaps, distributes}
 use Rattle.rules.proofs.Every.{rule-passes}
 use Rattle.rules.proofs.Lines.{not-so}
 
@@ -41,6 +41,8 @@ term-head mulk = true
 term-head mulb = true
 term-head outer = true
 term-head mulo = true
+term-head big-sum = true
+term-head (bound-basis a) = false
 
 abbrev left-head : Pattern → Bool
 left-head (# k) = false
@@ -58,6 +60,7 @@ rewrites-terms absorbing = true
 rewrites-terms merging = true
 rewrites-terms (collecting u v) = true
 rewrites-terms swapping = true
+rewrites-terms distributing = true
 
 abbrev Terms : Rule → Type 0
 Terms r = rewrites-terms r ≡ true
@@ -67,9 +70,12 @@ type-of : {Γ : Context} (W : WellFormed Γ) {l : Label} {f : Forest} (S : Sort)
 type-of W (index σ) h (type-var x) = not-so h
 type-of W (index σ) h (term-var e) = W .variable-type _ _ e .0
 type-of W (index σ) h (base-prod a b x) = not-so h
+type-of W (index σ) h (sum-over a b t n) = t
 type-of W (basis σ) h (basis-var e) = not-so h
 type-of W (basis σ) h (term-var e) = W .variable-type _ _ e .0
 type-of W (basis σ) h (pair-base a b x) = not-so h
+type-of W (basis σ) h (bound-var b e d) = not-so h
+type-of W (basis σ) h (sum-over a b t n) = t
 type-of W scalar h d = tt
 type-of W (ket σ) h d = tt
 type-of W (bra σ) h d = tt
@@ -97,6 +103,7 @@ module _ {Γ : Context} (W : WellFormed Γ) {S : Sort} where
   instance-type h (merges b f a c) d = type-of W S (chain-head c) d
   instance-type h (collects b m e c k x) d = type-of W S refl d
   instance-type h (swaps b a t u c) d = type-of W S (chain-head c) d
+  instance-type h (distributes s f x) d = type-of W S refl d
 
   pub rewritten-type : (n : ℕ) {r : Rule} {i j : ℕ} {p q : Tree} → ruleOf n ≡ some r → Instance Γ r i j p q → Γ ⊢ p ∶ S → IsType S
   rewritten-type n {r} e x d = instance-type (rule-passes rewrites-terms refl n r e) x d

@@ -10,6 +10,7 @@ use Rattle.algebra.proofs.Shapes.{shape-scalar}
 use Rattle.term.specs.Heads.{Label, scalar-sum, scalar-product, conjugate, dot, adjoint, scale, add, tensor, mulk, mulb, outer, mulo}
 use Rattle.term.specs.Trees.{Tree, Forest, node, none, _▹_, _⧺_, count}
 use Rattle.types.specs.Sorts.{Sort, Context}
+use Rattle.types.specs.Inside.{binds}
 use Rattle.types.specs.Rules.{_⊢_∶_, _⊢*_∶_, every-none, every-more, sca-conj, sca-dot, ket-adj, ket-scr, ket-mulk, ket-tsr, bra-adj, bra-scr, bra-mulb, bra-tsr, opt-adj, opt-scr, opt-outer, opt-mulo, opt-tsr, WellFormed}
 use Rattle.meaning.specs.Choices.{Choice}
 use Rattle.meaning.specs.Meaning.{times, dimension, stands, stands*}
@@ -178,6 +179,7 @@ module _ {R : Type 0} {𝓐 : Arithmetic R} (𝓡 : StarSemiring 𝓐) {Γ : Con
 
   pub product-any : (S : Sort) (b f a : Forest) → Γ ⊢ node scalar-product (b ⧺ node scalar-sum f ▹ a) ∶ S
       → value Γ 𝓡 χ (node scalar-product (b ⧺ node scalar-sum f ▹ a)) ≈ value Γ 𝓡 χ (node scalar-sum (spread scalar-product b f a))
+  unfolding binds
   product-any S b f a d =
-      let h = hole-of W b (node scalar-sum f) a d in
+      let h = hole-of W {l = scalar-product} refl b (node scalar-sum f) a d in
       product-by b f a (links scalar-sums (h .here) .of) (links scalar-products d .of) (h .here) (h .again)

@@ -8,8 +8,9 @@ use Rattle.term.specs.declared.parts.Side.{Side}
 use Rattle.term.specs.declared.parts.Side.the-variants.{Left, Right}
 use Rattle.term.specs.Trees.{Tree}
 use Rattle.types.specs.Sorts.{Sort, Context}
+use Rattle.types.specs.Inside.{inside}
 use Rattle.types.specs.Rules.{_⊢_∶_, WellFormed, Typed}
-use Rattle.types.proofs.Replace.{part-typed, replace-typed}
+use Rattle.types.proofs.Replace.{part-typed, inside-well, replace-typed}
 use Rattle.meaning.specs.Choices.{Choice}
 use Rattle.meaning.specs.Meaning.{stands}
 use Rattle.meaning.specs.Sorted.{Fits, Same}
@@ -30,8 +31,8 @@ use Rattle.rules.proofs.Parts.{rewritten-type}
 taken-type : {Γ : Context} (W : WellFormed Γ) {S : Sort} {t u : Tree} {s : Step} → Γ ⊢ t ∶ S → Taken Γ t s u → Typed Γ S u
 taken-type W {S} {t} {u} {s} d k =
     let p = part-typed W t (s .place) (k .part) S d (k .there) in
-    let q = rule-keeps W (s .rule) (k .r) (k .rule) (s .i) (s .j) (k .part) (k .new) (p .0) (k .is) (p .1) in
-    let e = rw (← k .result) at (replace-typed W (k .part) (k .new) (p .0) (p .1) q t (s .place) S d (k .there)) in
+    let q = rule-keeps (inside-well W t (s .place)) (s .rule) (k .r) (k .rule) (s .i) (s .j) (k .part) (k .new) (p .0) (k .is) (p .1) in
+    let e = rw (← k .result) at (replace-typed (k .part) (k .new) (p .0) W t (s .place) S d (k .there) (p .1) q) in
     record { rules = e; form = within-term-own W e (k .limits) }
 
 outcome-type : {Γ : Context} (W : WellFormed Γ) {S : Sort} {t u : Tree} {s : Step} {c : ℕ} → Typed Γ S t → Outcome Γ t s c u → Typed Γ S u
@@ -46,9 +47,11 @@ module _ {R : Type 0} {𝓐 : Arithmetic R} (𝓡 : StarSemiring 𝓐) {Γ : Con
   unfolding value
   taken-means {S} {t} {u} {s} d k =
       let p = part-typed W t (s .place) (k .part) S d (k .there) in
-      let q = rule-keeps W (s .rule) (k .r) (k .rule) (s .i) (s .j) (k .part) (k .new) (p .0) (k .is) (p .1) in
-      let m = rule-means 𝓡 W F (s .rule) (k .r) (k .rule) (s .i) (s .j) (k .part) (k .new) (p .0) (k .is) (p .1) in
-      let same = same-alike (p .0) _ _ (rewritten-type W (s .rule) (k .rule) (k .is) (p .1)) .1 m in
+      let X = inside-well W t (s .place) in
+      let q = rule-keeps X (s .rule) (k .r) (k .rule) (s .i) (s .j) (k .part) (k .new) (p .0) (k .is) (p .1) in
+      let type = rewritten-type X (s .rule) (k .rule) (k .is) (p .1) in
+      let same : (φ : Choice R) → Fits 𝓐 (inside Γ t (s .place)) φ → Same (p .0) (stands 𝓐 (inside Γ t (s .place)) φ (k .part)) (stands 𝓐 (inside Γ t (s .place)) φ (k .new)) =
+      λ φ G. same-alike (p .0) _ _ type .1 (rule-means 𝓡 X G (s .rule) (k .r) (k .rule) (s .i) (s .j) (k .part) (k .new) (p .0) (k .is) (p .1)) in
       rw (k .result) (congruent 𝓐 Γ χ W F t S (s .place) (k .part) (k .new) (p .0) d (k .there) (p .1) q same .1)
 
   outcome-means : {S : Sort} {t u : Tree} {s : Step} {c : ℕ} → Γ ⊢ t ∶ S → Outcome Γ t s c u → Same S (stands 𝓐 Γ χ t) (stands 𝓐 Γ χ u)

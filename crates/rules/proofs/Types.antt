@@ -1,6 +1,8 @@
 -- Each pattern rule keeps the sort of a typed part: the derivation of the left side is matched, and that of the right side is made of its pieces.
-use Rattle.types.specs.Sorts.{Context}
-use Rattle.types.specs.Rules.{every-none, every-more, sca-0, sca-1, sca-delta, sca-add, sca-mul, sca-conj, sca-dot, base-prod, pair-base, ket-0, ket-base, ket-adj, ket-scr, ket-add, ket-mulk, ket-tsr, bra-0, bra-base, bra-adj, bra-scr, bra-add, bra-mulb, bra-tsr, opt-0, opt-1, opt-adj, opt-scr, opt-add, opt-outer, opt-mulo, opt-tsr, WellFormed}
+use mathlib.Core.Path.{_≡_}
+use Rattle.types.specs.Sorts.{index, Context}
+use Rattle.types.specs.Rules.{_⊢_∶_, every-none, every-more, sca-0, sca-1, sca-delta, sca-add, sca-mul, sca-conj, sca-dot, base-prod, pair-base, ket-0, ket-base, ket-adj, ket-scr, ket-add, ket-mulk, ket-tsr, bra-0, bra-base, bra-adj, bra-scr, bra-add, bra-mulb, bra-tsr, opt-0, opt-1, opt-adj, opt-scr, opt-add, opt-outer, opt-mulo, opt-tsr, bound-var, sum-over, WellFormed}
+use Rattle.types.proofs.Indices.{index-is}
 use Rattle.types.proofs.Proper.{proper}
 use Rattle.rules.proofs.Lines.{not-so, sort-is, Keeps}
 
@@ -76,25 +78,25 @@ module _ {Γ : Context} (W : WellFormed Γ) where
   keeps-41 θ S (opt-scr a (opt-scr b c)) = opt-scr (sca-mul a (every-more b every-none)) c
 
   pub keeps-43 : Keeps Γ 43
-  keeps-43 θ S k (ket-scr sca-0 a) = rw (sort-is Γ a) (ket-0 (proper W a))
-  keeps-43 θ S k (bra-scr sca-0 a) = absurd (not-so (rw (sort-is Γ a) at k))
-  keeps-43 θ S k (opt-scr sca-0 a) = absurd (not-so (rw (sort-is Γ a) at k))
+  keeps-43 θ S k (ket-scr sca-0 a) = rw (sort-is W a) (ket-0 (proper W a))
+  keeps-43 θ S k (bra-scr sca-0 a) = absurd (not-so (rw (sort-is W a) at k))
+  keeps-43 θ S k (opt-scr sca-0 a) = absurd (not-so (rw (sort-is W a) at k))
 
   pub keeps-44 : Keeps Γ 44
   keeps-44 θ S (ket-scr a (ket-0 b)) = ket-0 b
 
   pub keeps-45 : Keeps Γ 45
-  keeps-45 θ S k (ket-scr sca-0 a) = absurd (not-so (rw (sort-is Γ a) at k))
-  keeps-45 θ S k (bra-scr sca-0 a) = rw (sort-is Γ a) (bra-0 (proper W a))
-  keeps-45 θ S k (opt-scr sca-0 a) = absurd (not-so (rw (sort-is Γ a) at k))
+  keeps-45 θ S k (ket-scr sca-0 a) = absurd (not-so (rw (sort-is W a) at k))
+  keeps-45 θ S k (bra-scr sca-0 a) = rw (sort-is W a) (bra-0 (proper W a))
+  keeps-45 θ S k (opt-scr sca-0 a) = absurd (not-so (rw (sort-is W a) at k))
 
   pub keeps-46 : Keeps Γ 46
   keeps-46 θ S (bra-scr a (bra-0 b)) = bra-0 b
 
   pub keeps-47 : Keeps Γ 47
-  keeps-47 θ S k (ket-scr sca-0 a) = absurd (not-so (rw (sort-is Γ a) at k))
-  keeps-47 θ S k (bra-scr sca-0 a) = absurd (not-so (rw (sort-is Γ a) at k))
-  keeps-47 θ S k (opt-scr sca-0 a) = rw (sort-is Γ a) (opt-0 (proper W a .0) (proper W a .1))
+  keeps-47 θ S k (ket-scr sca-0 a) = absurd (not-so (rw (sort-is W a) at k))
+  keeps-47 θ S k (bra-scr sca-0 a) = absurd (not-so (rw (sort-is W a) at k))
+  keeps-47 θ S k (opt-scr sca-0 a) = rw (sort-is W a) (opt-0 (proper W a .0) (proper W a .1))
 
   pub keeps-48 : Keeps Γ 48
   keeps-48 θ S (opt-scr a (opt-0 b c)) = opt-0 b c
@@ -160,28 +162,28 @@ module _ {Γ : Context} (W : WellFormed Γ) where
   keeps-81 θ S (opt-tsr a (opt-scr b c) h k) = opt-scr b (opt-tsr a c h k)
 
   pub keeps-84 : Keeps Γ 84
-  keeps-84 θ S (ket-tsr (ket-0 a) b h) = rw (sort-is Γ b) (ket-0 (base-prod a (proper W b) h))
+  keeps-84 θ S (ket-tsr (ket-0 a) b h) = rw (sort-is W b) (ket-0 (base-prod a (proper W b) h))
 
   pub keeps-85 : Keeps Γ 85
-  keeps-85 θ S (ket-tsr a (ket-0 b) h) = rw (sort-is Γ a) (ket-0 (base-prod (proper W a) b h))
+  keeps-85 θ S (ket-tsr a (ket-0 b) h) = rw (sort-is W a) (ket-0 (base-prod (proper W a) b h))
 
   pub keeps-86 : Keeps Γ 86
   keeps-86 θ S (ket-tsr (ket-base a) (ket-base b) h) = ket-base (pair-base a b h)
 
   pub keeps-87 : Keeps Γ 87
-  keeps-87 θ S (bra-tsr (bra-0 a) b h) = rw (sort-is Γ b) (bra-0 (base-prod a (proper W b) h))
+  keeps-87 θ S (bra-tsr (bra-0 a) b h) = rw (sort-is W b) (bra-0 (base-prod a (proper W b) h))
 
   pub keeps-88 : Keeps Γ 88
-  keeps-88 θ S (bra-tsr a (bra-0 b) h) = rw (sort-is Γ a) (bra-0 (base-prod (proper W a) b h))
+  keeps-88 θ S (bra-tsr a (bra-0 b) h) = rw (sort-is W a) (bra-0 (base-prod (proper W a) b h))
 
   pub keeps-89 : Keeps Γ 89
   keeps-89 θ S (bra-tsr (bra-base a) (bra-base b) h) = bra-base (pair-base a b h)
 
   pub keeps-90 : Keeps Γ 90
-  keeps-90 θ S (opt-tsr a (opt-0 b c) h k) = rw (sort-is Γ a) (opt-0 (base-prod (proper W a .0) b h) (base-prod (proper W a .1) c k))
+  keeps-90 θ S (opt-tsr a (opt-0 b c) h k) = rw (sort-is W a) (opt-0 (base-prod (proper W a .0) b h) (base-prod (proper W a .1) c k))
 
   pub keeps-91 : Keeps Γ 91
-  keeps-91 θ S (opt-tsr (opt-0 a b) c h k) = rw (sort-is Γ c) (opt-0 (base-prod a (proper W c .0) h) (base-prod b (proper W c .1) k))
+  keeps-91 θ S (opt-tsr (opt-0 a b) c h k) = rw (sort-is W c) (opt-0 (base-prod a (proper W c .0) h) (base-prod b (proper W c .1) k))
 
   pub keeps-92 : Keeps Γ 92
   keeps-92 θ S (opt-tsr (opt-1 a) (opt-1 b) h k) = opt-1 (base-prod a b h)
@@ -193,7 +195,7 @@ module _ {Γ : Context} (W : WellFormed Γ) where
   keeps-100 θ S (ket-mulk (opt-0 a b) c) = ket-0 a
 
   pub keeps-101 : Keeps Γ 101
-  keeps-101 θ S (ket-mulk a (ket-0 b)) = rw (sort-is Γ a) (ket-0 (proper W a .0))
+  keeps-101 θ S (ket-mulk a (ket-0 b)) = rw (sort-is W a) (ket-0 (proper W a .0))
 
   pub keeps-102 : Keeps Γ 102
   keeps-102 θ S (ket-mulk (opt-1 a) b) = b
@@ -223,7 +225,7 @@ module _ {Γ : Context} (W : WellFormed Γ) where
   keeps-120 θ S (bra-mulb a (opt-0 b c)) = bra-0 c
 
   pub keeps-121 : Keeps Γ 121
-  keeps-121 θ S (bra-mulb (bra-0 a) b) = rw (sort-is Γ b) (bra-0 (proper W b .1))
+  keeps-121 θ S (bra-mulb (bra-0 a) b) = rw (sort-is W b) (bra-0 (proper W b .1))
 
   pub keeps-122 : Keeps Γ 122
   keeps-122 θ S (bra-mulb a (opt-1 b)) = a
@@ -250,10 +252,10 @@ module _ {Γ : Context} (W : WellFormed Γ) where
   keeps-131 θ S (bra-mulb (bra-tsr a b h) (opt-tsr c d k l)) = bra-tsr (bra-mulb a c) (bra-mulb b d) l
 
   pub keeps-140 : Keeps Γ 140
-  keeps-140 θ S (opt-outer (ket-0 a) b) = rw (sort-is Γ b) (opt-0 a (proper W b))
+  keeps-140 θ S (opt-outer (ket-0 a) b) = rw (sort-is W b) (opt-0 a (proper W b))
 
   pub keeps-141 : Keeps Γ 141
-  keeps-141 θ S (opt-outer a (bra-0 b)) = rw (sort-is Γ a) (opt-0 (proper W a) b)
+  keeps-141 θ S (opt-outer a (bra-0 b)) = rw (sort-is W a) (opt-0 (proper W a) b)
 
   pub keeps-142 : Keeps Γ 142
   keeps-142 θ S (opt-outer (ket-scr a b) c) = opt-scr a (opt-outer b c)
@@ -262,10 +264,10 @@ module _ {Γ : Context} (W : WellFormed Γ) where
   keeps-143 θ S (opt-outer a (bra-scr b c)) = opt-scr b (opt-outer a c)
 
   pub keeps-150 : Keeps Γ 150
-  keeps-150 θ S (opt-mulo (opt-0 a b) c) = rw (sort-is Γ c) (opt-0 a (proper W c .1))
+  keeps-150 θ S (opt-mulo (opt-0 a b) c) = rw (sort-is W c) (opt-0 a (proper W c .1))
 
   pub keeps-151 : Keeps Γ 151
-  keeps-151 θ S (opt-mulo a (opt-0 b c)) = rw (sort-is Γ a) (opt-0 (proper W a .0) c)
+  keeps-151 θ S (opt-mulo a (opt-0 b c)) = rw (sort-is W a) (opt-0 (proper W a .0) c)
 
   pub keeps-152 : Keeps Γ 152
   keeps-152 θ S (opt-mulo (opt-1 a) b) = b
@@ -293,3 +295,18 @@ module _ {Γ : Context} (W : WellFormed Γ) where
 
   pub keeps-162 : Keeps Γ 162
   keeps-162 θ S (opt-mulo (opt-tsr a b h k) (opt-mulo (opt-tsr c d l m) e)) = opt-mulo (opt-tsr (opt-mulo a c) (opt-mulo b d) h m) e
+
+  -- ---- sums over a basis
+  pub keeps-180 : Keeps Γ 180
+  keeps-180 θ S (sum-over a sca-0 h n) = sca-0
+
+  -- the index of the basis that is bound last is the sum's own
+  pub keeps-181 : Keeps Γ 181
+  keeps-181 θ S (sum-over {s} a (opt-outer (ket-base (bound-var {σ = σ} b e d)) (bra-base (bound-var {σ = τ} c f g))) h n) =
+      let x : s ≡ σ = cc in
+      let y : s ≡ τ = cc in
+      let i : Γ ⊢ s ∶ index s = rw (index-is W a) (proper W a) in
+      rw (← x, ← y) (opt-1 i)
+
+  pub keeps-183 : Keeps Γ 183
+  keeps-183 θ S k (sum-over a (sca-delta b c) h n) = sca-1

@@ -1,12 +1,15 @@
 -- When a part is an instance of a rule's left side with indices i and j, and what it becomes. Document 01, "The rules by number", from "Rules go left to right only" on.
 use mathlib.Core.Path.{_≡_}
+use mathlib.Core.Bool.{Bool, true, _&&_, not}
+use mathlib.Core.List.{List, [], _∷_}
 use Prim.Native.Nat.{ℕ, _+_, _<_}
-use Rattle.term.specs.Heads.{Label, scalar-zero, scalar-one, scalar-sum, scalar-product, scale, add}
-use Rattle.term.specs.Trees.{Tree, Forest, node, none, _▹_, _⧺_, count}
+use lib.Dec.{eqb}
+use Rattle.term.specs.Heads.{Label, scalar-zero, scalar-one, scalar-sum, scalar-product, scale, add, big-sum, bound-basis, word}
+use Rattle.term.specs.Trees.{Tree, Forest, node, none, _▹_, _⧺_, count, words}
 use Rattle.types.specs.Sorts.{Sort, ket, bra, operator, Context}
 use Rattle.types.specs.Rules.{_⊢_∶_}
 use Rattle.rules.specs.Patterns.{Pattern, #_, first, second, _⟨⟩, _⟨_⟩, _⟨_∣_⟩, firstIndex, secondIndex}
-use Rattle.rules.specs.Table.{Kind, any, a-ket, a-bra, an-operator, Which, child, child-i, Summand, plain, scaled, Rule, _⇒_▷_, spreading, removing, absorbing, merging, collecting, swapping}
+use Rattle.rules.specs.Table.{Condition, any, a-ket, a-bra, an-operator, unused, Which, child, child-i, Summand, plain, scaled, Rule, _⇒_▷_, spreading, removing, absorbing, merging, collecting, swapping, distributing}
 
 -- A side of an equation with the parts θ in its holes. Where it names an index of what hole k holds, that part has a type, and the index is the type's: 002's
 -- "K : K(τ) ⇒"
@@ -18,18 +21,33 @@ pub data Filled (Γ : Context) (θ : ℕ → Tree) : Pattern → Tree → Type 0
   over-one : {l : Label} {p : Pattern} {t : Tree} → Filled Γ θ p t → Filled Γ θ (l ⟨ p ⟩) (node l (t ▹ none))
   over-two : {l : Label} {p q : Pattern} {t u : Tree} → Filled Γ θ p t → Filled Γ θ q u → Filled Γ θ (l ⟨ p ∣ q ⟩) (node l (t ▹ u ▹ none))
 
--- the part in hole 0 is of the kind that the rule wants: 002's "K : K(σ) ⇒"
-abbrev pub OfKind : Context → Kind → Tree → Type 0
-OfKind Γ any t = Unit {0}
-OfKind Γ a-ket t = (σ : Tree) × (Γ ⊢ t ∶ ket σ)
-OfKind Γ a-bra t = (σ : Tree) × (Γ ⊢ t ∶ bra σ)
-OfKind Γ an-operator t = (σ : Tree) × (τ : Tree) × (Γ ⊢ t ∶ operator σ τ)
+-- no word of a part is 28:0, so that it does not use the basis that is bound last
+unfoldable pub lacks : ℕ → List ℕ → Bool
+lacks w [] = true
+lacks w (v ∷ vs) = not (eqb w v) && lacks w vs
+
+unfoldable pub isUnused : Tree → Bool
+unfolding lacks words word
+isUnused s = lacks (word (bound-basis 0) 0) (words s)
+
+-- the part in hole 0 is of the kind that the rule wants: 002's "K : K(σ) ⇒"; 02, CR 1, "where s does not use this 27's own basis"
+abbrev pub Holds : Context → Condition → (ℕ → Tree) → Type 0
+Holds Γ any θ = Unit {0}
+Holds Γ a-ket θ = (σ : Tree) × (Γ ⊢ θ 0 ∶ ket σ)
+Holds Γ a-bra θ = (σ : Tree) × (Γ ⊢ θ 0 ∶ bra σ)
+Holds Γ an-operator θ = (σ : Tree) × (τ : Tree) × (Γ ⊢ θ 0 ∶ operator σ τ)
+Holds Γ unused θ = isUnused (θ 1) ≡ true
 
 -- "of a 7, 8 or 20"
 pub data Chain : Label → Type 0 where
   scalar-sums : Chain scalar-sum
   scalar-products : Chain scalar-product
   sums : Chain add
+
+-- 02, CR 1: "a body that is a sum (7 or 20)"
+pub data Sum : Label → Type 0 where
+  of-scalars : Sum scalar-sum
+  of-arrays : Sum add
 
 -- "Unused indices are 0": the sum stands at a fixed child, or at child i
 abbrev pub Picks : Which → ℕ → ℕ → Type 0
@@ -52,7 +70,7 @@ factor scaled a = a
 
 pub data Instance (Γ : Context) : Rule → ℕ → ℕ → Tree → Tree → Type 0 where
   -- the left side with parts in its holes becomes the right side with the same
-  equals : {k : Kind} {l r : Pattern} {p q : Tree} (θ : ℕ → Tree) → Filled Γ θ l p → Filled Γ θ r q → OfKind Γ k (θ 0)
+  equals : {k : Condition} {l r : Pattern} {p q : Tree} (θ : ℕ → Tree) → Filled Γ θ l p → Filled Γ θ r q → Holds Γ k θ
       → Instance Γ (k ⇒ l ▷ r) 0 0 p q
   -- "7 spreads child i, a sum"; the others a fixed child
   spreads : {l s r : Label} {w : Which} {i : ℕ} (before f after : Forest) → Picks w i (count before)
@@ -74,3 +92,5 @@ pub data Instance (Γ : Context) : Rule → ℕ → ℕ → Tree → Tree → Ty
   -- "170 exchanges children i and i + 1 of a 7, 8 or 20"
   swaps : {l : Label} (before after : Forest) (t u : Tree) → Chain l
       → Instance Γ swapping (count before) 0 (node l (before ⧺ t ▹ u ▹ after)) (node l (before ⧺ u ▹ t ▹ after))
+  -- 02, CR 1: "182 spreads over a body that is a sum (7 or 20)"
+  distributes : {l : Label} (s : Tree) (f : Forest) → Sum l → Instance Γ distributing 0 0 (node big-sum (s ▹ node l f ▹ none)) (node l (spread big-sum (s ▹ none) f none))

@@ -7,13 +7,13 @@ use Prim.Native.Nat.{ℕ, zero, suc}
 use lib.Dec.{eqb, ltb}
 use lib.ListN.{length, getD}
 use Rattle.words.specs.Words.{sameWords}
-use Rattle.term.specs.Heads.{Label, type-name, basis-name, variable, index-product, pair, scalar-zero, scalar-one, scalar-sum, scalar-product, conjugate, delta, dot, zero-ket, zero-bra, zero-operator, identity, basis-ket, basis-bra, adjoint, scale, add, tensor, mulk, mulb, outer, mulo, word}
+use Rattle.term.specs.Heads.{Label, type-name, basis-name, variable, index-product, pair, scalar-zero, scalar-one, scalar-sum, scalar-product, conjugate, delta, dot, zero-ket, zero-bra, zero-operator, identity, basis-ket, basis-bra, adjoint, scale, add, tensor, mulk, mulb, outer, mulo, big-sum, bound-basis, word}
 use Rattle.term.specs.Trees.{Tree, Forest, node, none, _▹_, _⧺_, count, words}
 use Rattle.types.specs.Sorts.{Sort, index, basis, scalar, ket, bra, operator, Context}
 use Rattle.types.specs.TypeOf.{Typed, typed, untyped, typeOf}
 use Rattle.rules.specs.Patterns.{Pattern, #_, first, second, _⟨⟩, _⟨_⟩, _⟨_∣_⟩, no-index, firstIndex, secondIndex}
-use Rattle.rules.specs.Table.{Kind, any, a-ket, a-bra, an-operator, Which, child, child-i, Summand, plain, scaled, Rule, _⇒_▷_, spreading, removing, absorbing, merging, collecting, swapping}
-use Rattle.rules.specs.Instances.{spread, factor}
+use Rattle.rules.specs.Table.{Condition, any, a-ket, a-bra, an-operator, unused, Which, child, child-i, Summand, plain, scaled, Rule, _⇒_▷_, spreading, removing, absorbing, merging, collecting, swapping, distributing}
+use Rattle.rules.specs.Instances.{isUnused, spread, factor}
 
 -- ---- heads
 -- a head without a name is known by its word
@@ -44,6 +44,8 @@ nameless mulk = true
 nameless mulb = true
 nameless outer = true
 nameless mulo = true
+nameless big-sum = true
+nameless (bound-basis a) = false
 
 -- a label is the one that is wanted: their words over n children are the same
 unfoldable pub isHead : Label → Label → ℕ → Bool
@@ -81,11 +83,12 @@ isOperator (ket σ) = false
 isOperator (bra σ) = false
 isOperator (operator σ τ) = true
 
-abbrev pub wanted : Kind → Sort → Bool
+abbrev pub wanted : Condition → Sort → Bool
 wanted any S = true
 wanted a-ket S = isKet S
 wanted a-bra S = isBra S
 wanted an-operator S = isOperator S
+wanted unused S = true
 
 -- ---- patterns
 -- a pattern with trees in its holes
@@ -122,9 +125,18 @@ match (l ⟨ p ∣ q ⟩) (node m (t ▹ u ▹ v ▹ f)) c = refused
 abbrev pub holes : List Tree → ℕ → Tree
 holes c k = getD c k no-index
 
-unfoldable pub filled : Context → Kind → Pattern → Option (List Tree) → Option Tree
+-- whether what the holes hold meets the condition
+unfoldable pub satisfied : Context → Condition → (ℕ → Tree) → Bool
+unfolding isUnused
+satisfied Γ any θ = true
+satisfied Γ a-ket θ = wanted a-ket (sortOf Γ (θ 0))
+satisfied Γ a-bra θ = wanted a-bra (sortOf Γ (θ 0))
+satisfied Γ an-operator θ = wanted an-operator (sortOf Γ (θ 0))
+satisfied Γ unused θ = isUnused (θ 1)
+
+unfoldable pub filled : Context → Condition → Pattern → Option (List Tree) → Option Tree
 filled Γ k r refused = refused
-filled Γ k r (some c) = cond (wanted k (sortOf Γ (holes c 0))) (some (fill Γ (holes c) r)) refused
+filled Γ k r (some c) = cond (satisfied Γ k (holes c)) (some (fill Γ (holes c) r)) refused
 
 -- ---- children: those before child i, the child, and those behind it
 pub data Opened : Type 0 where
@@ -161,6 +173,15 @@ unfoldable pub swapAt : Label → Opened → Option Tree
 swapAt l outside = refused
 swapAt l (opened b t none) = refused
 swapAt l (opened b t (u ▹ a)) = some (node l (b ⧺ u ▹ t ▹ a))
+
+-- over a sum of scalars, or else over one of arrays
+unfoldable pub orElse : Option Tree → Option Tree → Option Tree
+orElse refused b = b
+orElse (some t) b = some t
+
+unfoldable pub distributeAt : Opened → Option Tree
+unfolding spreadAt orElse
+distributeAt o = orElse (spreadAt big-sum scalar-sum scalar-sum o) (spreadAt big-sum add add o)
 
 -- a summand as its factor and its X
 pub data Multiple : Type 0 where
@@ -210,3 +231,4 @@ rewrite Γ absorbing i j (node m f) = cond (eqb j 0 && isHead scalar-product m (
 rewrite Γ merging i j (node m f) = cond (eqb j 0 && isChain m (count f)) (mergeAt m (open-at f i)) refused
 rewrite Γ (collecting u v) i j (node m f) = cond (isHead add m (count f)) (collectAt u v i (open-at f j)) refused
 rewrite Γ swapping i j (node m f) = cond (eqb j 0 && isChain m (count f)) (swapAt m (open-at f i)) refused
+rewrite Γ distributing i j (node m f) = cond (eqb j 0 && (usable (child 1) i && isHead big-sum m (count f))) (distributeAt (open-at f (place (child 1) i))) refused

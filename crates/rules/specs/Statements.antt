@@ -26,7 +26,7 @@ Decides =
     → (rewrite Γ r i j p ≡ some q) ↔ Instance Γ r i j p q
 
 abbrev pub AtMostOne : Type 0
-AtMostOne = (Γ : Context) (n : ℕ) (r : Rule) → ruleOf n ≡ some r → (i j : ℕ) (p q q′ : Tree) → Instance Γ r i j p q → Instance Γ r i j p q′ → q ≡ q′
+AtMostOne = (Γ : Context) → WellFormed Γ → (n : ℕ) (r : Rule) → ruleOf n ≡ some r → (i j : ℕ) (p q q′ : Tree) → Instance Γ r i j p q → Instance Γ r i j p q′ → q ≡ q′
 
 -- 01: "That a step keeps the type, and never makes an index longer than 63 words, is for the team to prove"
 abbrev pub KeepsType : Type 0

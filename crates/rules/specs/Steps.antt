@@ -11,6 +11,7 @@ use Rattle.term.specs.declared.parts.Side.the-variants.{Left, Right}
 use Rattle.term.specs.Trees.{Tree, Forest, node, _▹_, none as no-tree, count, words, depth, Subtree, outside, found, subtree, replace}
 use Rattle.term.specs.Terms.{maxWords, maxDepth, maxChildren}
 use Rattle.types.specs.Sorts.{Context}
+use Rattle.types.specs.Inside.{inside}
 use Rattle.rules.specs.Table.{Rule, ruleOf}
 use Rattle.rules.specs.Rewrite.{rewrite}
 
@@ -53,9 +54,9 @@ atPart Γ t s none = refuse 22 t
 atPart Γ t s (some new) = limited t (replace t (s .place) new)
 
 unfoldable pub atPlace : Context → Tree → Step → Rule → Subtree → Stepped
-unfolding atPart
+unfolding atPart inside
 atPlace Γ t s r outside = refuse 21 t
-atPlace Γ t s r (found part) = atPart Γ t s (rewrite Γ r (s .i) (s .j) part)
+atPlace Γ t s r (found part) = atPart Γ t s (rewrite (inside Γ t (s .place)) r (s .i) (s .j) part)
 
 unfoldable pub byRule : Context → Tree → Step → Option Rule → Stepped
 unfolding atPlace

@@ -1,15 +1,16 @@
--- The 118 rules as data, by the numbers of document 01 ("The rules by number"), each with its name. Each line is read against source document 002, tables 1 to 11.
+-- The 122 rules as data, by the numbers of document 01 ("The rules by number"), each with its name. Each line is read against source document 002, tables 1 to 11; 180 to 183 against document 02, CR 1.
 use mathlib.Core.Bool.{cond}
 use mathlib.Core.List.{List, [], _∷_}
 use mathlib.Core.Option.{Option, some, none}
 use Prim.Native.Nat.{ℕ}
 use lib.Dec.{eqb}
-use Rattle.term.specs.Heads.{Label, index-product, pair, scalar-zero, scalar-one, scalar-sum, scalar-product, conjugate, delta, dot, zero-ket, zero-bra, zero-operator, identity, basis-ket, basis-bra, adjoint, scale, add, tensor, mulk, mulb, outer, mulo}
+use Rattle.term.specs.Heads.{Label, index-product, pair, scalar-zero, scalar-one, scalar-sum, scalar-product, conjugate, delta, dot, zero-ket, zero-bra, zero-operator, identity, basis-ket, basis-bra, adjoint, scale, add, tensor, mulk, mulb, outer, mulo, big-sum, bound-basis}
 use Rattle.rules.specs.Patterns.{Pattern, #_, first, second, _⟨⟩, _⟨_⟩, _⟨_∣_⟩}
 
--- of what kind the part in hole 0 must be, where the left side does not tell: 002's "K : K(σ) ⇒" in SCRK0, SCRB0 and SCRO0
-pub data Kind : Type 0 where
-  any a-ket a-bra an-operator : Kind
+-- What must hold of the parts in the holes, where the left side does not tell: of what kind that in hole 0 is, 002's "K : K(σ) ⇒" in SCRK0, SCRB0 and SCRO0; that the one in hole 1 does
+-- not use the basis that the part binds, in 183
+pub data Condition : Type 0 where
+  any a-ket a-bra an-operator unused : Condition
 
 -- which child is the sum that is spread over: always the same, or child i
 pub data Which : Type 0 where
@@ -24,7 +25,7 @@ infix 75 _▷_
 infix 75 _⇒_▷_
 pub data Rule : Type 0 where
   -- one equation
-  _⇒_▷_ : Kind → Pattern → Pattern → Rule
+  _⇒_▷_ : Condition → Pattern → Pattern → Rule
   -- a head spreads over its child, a sum: the head, which child, the sum's head, the result's head
   spreading : Label → Which → Label → Label → Rule
   -- child i goes: the parent's head, the child's
@@ -37,6 +38,8 @@ pub data Rule : Type 0 where
   collecting : Summand → Summand → Rule
   -- 170: children i and i + 1 change places
   swapping : Rule
+  -- 182: a sum over a basis spreads over its body, a sum
+  distributing : Rule
 
 abbrev pub _▷_ : Pattern → Pattern → Rule
 l ▷ r = any ⇒ l ▷ r
@@ -178,6 +181,11 @@ table =
     162 {- MULO12 -} ∶ mulo ⟨ tensor ⟨ # 0 ∣ # 1 ⟩ ∣ mulo ⟨ tensor ⟨ # 2 ∣ # 3 ⟩ ∣ # 4 ⟩ ⟩ ▷ mulo ⟨ tensor ⟨ mulo ⟨ # 0 ∣ # 2 ⟩ ∣ mulo ⟨ # 1 ∣ # 3 ⟩ ⟩ ∣ # 4 ⟩ ∷
     -- our own
     170 {- SWAP -} ∶ swapping ∷
+    -- sums over a basis
+    180 {- SUM0 -} ∶ big-sum ⟨ # 0 ∣ scalar-zero ⟨⟩ ⟩ ▷ scalar-zero ⟨⟩ ∷
+    181 {- SUM1 -} ∶ big-sum ⟨ # 0 ∣ outer ⟨ basis-ket ⟨ bound-basis 0 ⟨⟩ ⟩ ∣ basis-bra ⟨ bound-basis 0 ⟨⟩ ⟩ ⟩ ⟩ ▷ identity ⟨ # 0 ⟩ ∷
+    182 {- SUM2 -} ∶ distributing ∷
+    183 {- SUM3 -} ∶ unused ⇒ big-sum ⟨ # 0 ∣ delta ⟨ # 1 ∣ bound-basis 0 ⟨⟩ ⟩ ⟩ ▷ scalar-one ⟨⟩ ∷
     []
 
 -- the rule of a number, if there is one

@@ -14,7 +14,7 @@ use Rattle.term.specs.Parts.{parse, first, part, treeIn}
 use Rattle.term.proofs.Parsing.{some-words, parse-words}
 use Rattle.shapes.specs.Reading.{Begins, childAt}
 
-at-front : (ws : List ℕ) (at : ℕ) (x : ℕ) (ys : List ℕ) → drop at ws ≡ x ∷ ys → (getD ws at 0 ≡ x) × (drop (suc at) ws ≡ ys)
+pub at-front : (ws : List ℕ) (at : ℕ) (x : ℕ) (ys : List ℕ) → drop at ws ≡ x ∷ ys → (getD ws at 0 ≡ x) × (drop (suc at) ws ≡ ys)
 at-front [] at x ys e = absurd (let z : [] ≡ x ∷ ys = sym (drop-nil at) ∙ e in let y : _≡_ {A = ℕ} 0 1 = cc in omega arith)
 at-front (w ∷ ws) zero x ys e = (head-eq-of-cons-eq e, tail-eq-of-cons-eq e)
 at-front (w ∷ ws) (suc at) x ys e = at-front ws at x ys e
@@ -42,15 +42,18 @@ module _ (ws : List ℕ) (at : ℕ) {n : ℕ} {l : Label} {t : Tree} where
   unfolding childAt Formed depth
   begins-first {f} b = record { formed = b .formed .1 .0; shallow = omega (arith, b .shallow); rest = words* f ++ b .rest; whole = children ws at b }
 
+  pub second-at : {u : Tree} {f : Forest} → Begins (drop at ws) (suc n) (node l (t ▹ u ▹ f)) → childAt ws at true ≡ at + 1 + length (words t)
+  unfolding childAt Formed
+  second-at b = rw (part-of ws (at + 1) t _ (b .formed .1 .0) (children ws at b), ne-eqb (length (words t)) 0 (λ z. omega (arith, some-words t)))
+
   pub begins-second : {u : Tree} {f : Forest} → Begins (drop at ws) (suc n) (node l (t ▹ u ▹ f)) → Begins (drop (childAt ws at true) ws) n u
-  unfolding childAt Formed depth words
+  unfolding Formed depth words
   begins-second {u} {f} b =
       let e = children ws at b in
-      let p = part-of ws (at + 1) t _ (b .formed .1 .0) e in
       let k : drop (length (words t)) (drop (at + 1) ws) ≡ (words u ++ words* f) ++ b .rest = rw e (drop-at (words t) ((words u ++ words* f) ++ b .rest) (length (words t)) refl) in
       record {
         formed = b .formed .1 .1 .0;
         shallow = omega (arith, b .shallow);
         rest = words* f ++ b .rest;
-        whole = rw (p, ne-eqb (length (words t)) 0 (λ z. omega (arith, some-words t)), ← drop-drop (length (words t)) (at + 1) ws) (k ∙ append-assoc (words u) (words* f) (b .rest));
+        whole = rw (second-at b, ← drop-drop (length (words t)) (at + 1) ws) (k ∙ append-assoc (words u) (words* f) (b .rest));
       }

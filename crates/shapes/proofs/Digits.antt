@@ -1,12 +1,12 @@
 -- What the lines of the typing rules have in common: which of a head's children each digit is about, and that only children of one class are multiplied.
 use mathlib.Core.Path.{_≡_, refl, sym, _∙_}
 use mathlib.Core.Logic.{_≢_}
-use mathlib.Core.Bool.{Bool, true, false, cond, not, _&&_, and-eq-true-iff}
-use Prim.Native.Nat.{ℕ, zero, suc, _/_, _%_, _≤_}
+use mathlib.Core.Bool.{Bool, true, false, cond, _&&_, and-eq-true-iff}
+use Prim.Native.Nat.{ℕ, zero, suc, _/_, _%_, _≤_, _<_}
 use native.Mathlib.Nat.{zero-add}
 use native.Mathlib.Omega.{arith}
-use borrow.Author.Tests.{eqb-true, leb-true, eq-eqb, le-leb, not-true}
-use lib.Dec.{eqb, leb, eqb·suc-zero}
+use borrow.Author.Tests.{eqb-true, leb-true, ltb-true, eq-eqb, ne-eqb, le-leb}
+use lib.Dec.{eqb, leb, ltb, eqb·suc-zero}
 use lib.ListN.{length, getD}
 use Rattle.term.specs.Heads.{Label, Head, unknown, named, fixed, counted, heads, unread, labelled, reading, read, resultOf, childOf}
 use Rattle.term.proofs.Readings.{Every, every-at, _⨾_}
@@ -20,7 +20,7 @@ implies a b = cond a b true
 
 -- children that are multiplied are of one class: the rule asks for it, or the table of heads does
 abbrev oneClass : ℕ → Bool
-oneClass h = cond (eqb (ruleAt h / 4096) 5) true (eqb (ruleAt h / 4096) 4 && (eqb (numberOf (childOf h 0)) (numberOf (childOf h 1)) && not (eqb (numberOf (childOf h 0)) 7)))
+oneClass h = cond (eqb (ruleAt h / 4096) 5) true (eqb (ruleAt h / 4096) 4 && (eqb (numberOf (childOf h 0)) (numberOf (childOf h 1)) && ltb (numberOf (childOf h 0)) 7))
 
 abbrev multiplies : ℕ → Bool → Bool
 multiplies h two = two && (eqb (digit false (ruleAt h)) 1 && (eqb (digit true (ruleAt h)) 2 && oneClass h))
@@ -44,7 +44,7 @@ rows : Every RowTest 0 heads
 unfolding heads ruleAt rules resultOf childOf
 rows =
     tt ⨾ tt ⨾ refl ⨾ tt ⨾ refl ⨾ refl ⨾ refl ⨾ refl ⨾ refl ⨾ refl ⨾ refl ⨾ refl ⨾ refl ⨾ refl ⨾ refl ⨾ refl ⨾ refl ⨾ refl ⨾ refl ⨾ refl ⨾ refl ⨾ refl ⨾ refl ⨾ refl ⨾ refl
-    ⨾ refl ⨾ tt ⨾ tt
+    ⨾ refl ⨾ tt ⨾ refl ⨾ tt ⨾ tt
 
 -- ---- what they tell of a head with n children
 pub record Row (h n : ℕ) : Type 0 where
@@ -104,21 +104,24 @@ unfolding read heads reading
 no-variable w l n e z = let v = rw z at e in let y : _≡_ {A = ℕ} 0 1 = cc in omega arith
 
 -- ---- children that are multiplied
+one-only : (n m : ℕ) → n < m → eqb n m ≡ false
+one-only n m h = ne-eqb n m (λ z. omega arith)
+
 pub same-class : (h : ℕ) (a b : Shape) (alike : Bool) → oneClass h ≡ true → fitted h 2 (a .class) (b .class) ≡ true → met (ruleAt h / 4096) a b alike ≡ true
     → numberOf (a .class) ≡ numberOf (b .class)
 unfolding fitted met
 same-class h a b alike o f m = go (eqb (ruleAt h / 4096) 5) refl o
   where
     go : (five : Bool) → eqb (ruleAt h / 4096) 5 ≡ five
-        → cond five true (eqb (ruleAt h / 4096) 4 && (eqb (numberOf (childOf h 0)) (numberOf (childOf h 1)) && not (eqb (numberOf (childOf h 0)) 7))) ≡ true
+        → cond five true (eqb (ruleAt h / 4096) 4 && (eqb (numberOf (childOf h 0)) (numberOf (childOf h 1)) && ltb (numberOf (childOf h 0)) 7)) ≡ true
         → numberOf (a .class) ≡ numberOf (b .class)
     go true e o = let five = eqb-true (ruleAt h / 4096) 5 e in eqb-true (numberOf (a .class)) (numberOf (b .class)) (rw five at m)
     go false e o =
         let p = both (eqb (ruleAt h / 4096) 4) _ o in
-        let q = both (eqb (numberOf (childOf h 0)) (numberOf (childOf h 1))) (not (eqb (numberOf (childOf h 0)) 7)) (p .1) in
+        let q = both (eqb (numberOf (childOf h 0)) (numberOf (childOf h 1))) (ltb (numberOf (childOf h 0)) 7) (p .1) in
         let same = eqb-true (numberOf (childOf h 0)) (numberOf (childOf h 1)) (q .0) in
-        let x : eqb (numberOf (childOf h 0)) 7 ≡ false = not-true _ (q .1) in
-        let y : eqb (numberOf (childOf h 1)) 7 ≡ false = rw same at x in
+        let few = ltb-true (numberOf (childOf h 0)) 7 (q .1) in
         let four = eqb-true (ruleAt h / 4096) 4 (p .0) in
-        let g = both (eqb (numberOf (a .class)) (numberOf (childOf h 0))) (eqb (numberOf (b .class)) (numberOf (childOf h 1))) (rw (four, x, y) at f) in
+        let g = both (eqb (numberOf (a .class)) (numberOf (childOf h 0))) (eqb (numberOf (b .class)) (numberOf (childOf h 1)))
+        (rw (four, one-only (numberOf (childOf h 0)) 7 few, one-only (numberOf (childOf h 0)) 8 (omega arith), one-only (numberOf (childOf h 1)) 7 (omega arith), one-only (numberOf (childOf h 1)) 8 (omega arith)) at f) in
         eqb-true _ _ (g .0) ∙ same ∙ sym (eqb-true _ _ (g .1))

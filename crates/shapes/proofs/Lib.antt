@@ -4,4 +4,6 @@ mod Declared
 mod Digits
 mod Nodes
 pub mod Begun
+mod Bodies
+mod Walks
 pub mod Theorems

@@ -18,7 +18,7 @@ use Rattle.term.proofs.Parsing.{some-words}
 use Rattle.types.specs.Sorts.{Sort, index, basis, scalar, ket, bra, operator}
 use Rattle.typebook.specs.Code.Shapes.{Shape, shape, shapeOf, numberOf, given}
 use Rattle.typebook.specs.Code.Lines.{ruleAt, met, fitted, turned, classBy, pieceOf, isProduct, pairOf, sideOf, shortBoth, shaped, byLine, childrenOf}
-use Rattle.shapes.specs.Reading.{declaredIndex, childAt, turnedIf, classRead, classAt, digit, isRight, sideRead, sideAt, sideIn, Read}
+use Rattle.shapes.specs.Reading.{leafIndex, childAt, turnedIf, classRead, classAt, digit, isRight, sideRead, sideAt, sideIn, Read}
 use Rattle.shapes.proofs.Digits.{Row, same-class}
 
 -- ---- what a conclusion tells
@@ -136,8 +136,8 @@ own-digit true r a b l k = rw k
 own-digit false r a b l k = rw l
 
 -- ---- both, of a part whose children are read
-module _ (ds ws : List ℕ) (n at m : ℕ) (S s t : Sort) (alike : Bool) (row : Row (getD ws at 0 / 256) m) (x : Told (getD ws at 0 / 256) m (shapeOf s) (shapeOf t) alike (shapeOf S))
-    (unnamed : getD ws at 0 / 256 ≢ 26) (first : Read ds ws n (childAt ws at false) s) (second : m ≡ 2 → Read ds ws n (childAt ws at true) t) where
+module _ (ds ws : List ℕ) (outer : ℕ → List ℕ) (n at m : ℕ) (S s t : Sort) (alike : Bool) (row : Row (getD ws at 0 / 256) m) (x : Told (getD ws at 0 / 256) m (shapeOf s) (shapeOf t) alike (shapeOf S))
+    (unnamed : getD ws at 0 / 256 ≢ 26) (first : Read ds ws outer n (childAt ws at false) s) (second : m ≡ 2 → Read ds ws outer n (childAt ws at true) t) where
   abbrev h : ℕ
   h = getD ws at 0 / 256
 
@@ -148,7 +148,7 @@ module _ (ds ws : List ℕ) (n at m : ℕ) (S s t : Sort) (alike : Bool) (row : 
       (class-by (ruleAt h / 256 % 16) h (shapeOf s .class) (shapeOf t .class) (λ k. classAt ds ws n (childAt ws at k)) (row .few) (first .class) (λ z. second (row .class-two z) .class))
 
   product-side : (right : Bool) → isProduct (ruleAt h / 4096) ≡ true → sideIn right (shapeOf S) ≢ []
-      → 512 ∷ (sideAt ds ws right n (childAt ws at false) ++ sideAt ds ws right n (childAt ws at true)) ≡ sideIn right (shapeOf S)
+      → 512 ∷ (sideAt ds ws outer right n (childAt ws at false) ++ sideAt ds ws outer right n (childAt ws at true)) ≡ sideIn right (shapeOf S)
   unfolding sideOf
   product-side right p there =
       let r = row .product p in
@@ -159,19 +159,19 @@ module _ (ds ws : List ℕ) (n at m : ℕ) (S s t : Sort) (alike : Bool) (row : 
       rw (first .side right u, second (r .0) .side right v) (pair-is (sideIn right (shapeOf s)) (sideIn right (shapeOf t)) (λ z. there (e ∙ z)) ∙ sym e)
 
   piece-side : (right : Bool) → isProduct (ruleAt h / 4096) ≡ false → sideIn right (shapeOf S) ≢ []
-      → cond (eqb (digit right (ruleAt h)) 0) (declaredIndex ds right (getD ws at 0)) (sideAt ds ws (isRight (digit right (ruleAt h))) n (childAt ws at (leb 3 (digit right (ruleAt h))))) ≡ sideIn right (shapeOf S)
+      → cond (eqb (digit right (ruleAt h)) 0) (leafIndex ds ws outer right at (getD ws at 0)) (sideAt ds ws outer (isRight (digit right (ruleAt h))) n (childAt ws at (leb 3 (digit right (ruleAt h))))) ≡ sideIn right (shapeOf S)
   unfolding sideOf
   piece-side right p there =
       let e : sideIn right (shapeOf S) ≡ pieceOf (digit right (ruleAt h)) (shapeOf s) (shapeOf t) = rw p at (x .side right) in
-      piece-is (digit right (ruleAt h)) (shapeOf s) (shapeOf t) (declaredIndex ds right (getD ws at 0)) (λ r k. sideAt ds ws r n (childAt ws at k)) (first .side) (λ z. second (row .side-two right z) .side) (λ z. there (e ∙ z)) ∙ sym e
+      piece-is (digit right (ruleAt h)) (shapeOf s) (shapeOf t) (leafIndex ds ws outer right at (getD ws at 0)) (λ r k. sideAt ds ws outer r n (childAt ws at k)) (first .side) (λ z. second (row .side-two right z) .side) (λ z. there (e ∙ z)) ∙ sym e
 
   -- an index is its own, which the caller knows
   pub node-side : (numberOf (shapeOf S .class) ≡ 1 → (right : Bool) → sideIn right (shapeOf S) ≢ [] → part ws at ≡ sideIn right (shapeOf S))
-      → (right : Bool) → sideIn right (shapeOf S) ≢ [] → sideAt ds ws right (suc n) at ≡ sideIn right (shapeOf S)
+      → (right : Bool) → sideIn right (shapeOf S) ≢ [] → sideAt ds ws outer right (suc n) at ≡ sideIn right (shapeOf S)
   unfolding sideAt sideRead classBy
   node-side own right there = go (eqb (numberOf (resultOf h)) 1) refl (isProduct (ruleAt h / 4096)) refl
     where
-      go : (i : Bool) → eqb (numberOf (resultOf h)) 1 ≡ i → (p : Bool) → isProduct (ruleAt h / 4096) ≡ p → sideAt ds ws right (suc n) at ≡ sideIn right (shapeOf S)
+      go : (i : Bool) → eqb (numberOf (resultOf h)) 1 ≡ i → (p : Bool) → isProduct (ruleAt h / 4096) ≡ p → sideAt ds ws outer right (suc n) at ≡ sideIn right (shapeOf S)
       go true e p f = rw e (own (ap numberOf (rw (row .index (eqb-true _ 1 e)) at (x .class)) ∙ eqb-true _ 1 e) right there)
       go false e true f = rw (e, f) (product-side right f there)
       go false e false f = rw (e, f) (piece-side right f there)

@@ -14,7 +14,8 @@ use Rattle.term.specs.Parts.{part}
 use Rattle.term.proofs.Scan.{part-front}
 use Rattle.typebook.specs.Code.Shapes.{numberOf}
 use Rattle.typebook.specs.Code.Lines.{rules, ruleAt}
-use Rattle.shapes.specs.Reading.{secondOf, declaredIndex, variableClass, childAt, turnedIf, classRead, classAt, digit, isRight, sideRead, sideAt}
+use Rattle.shapes.specs.Bodies.{boundIn}
+use Rattle.shapes.specs.Reading.{secondOf, declaredIndex, leafIndex, variableClass, childAt, turnedIf, classRead, classAt, digit, isRight, sideRead, sideAt}
 
 -- a variable has two indices at most
 pub second-few : (right : Bool) (kind : ℕ) {k : ℕ} → k ≡ secondOf right kind → k ≤ 1
@@ -85,14 +86,14 @@ module _ (ds ws : List ℕ) (n at : ℕ) (some : 0 < n) {word : ℕ} (w : word �
     class-child h e = rw (e, turned-both) (rw (ne-eqb _ 26 other, ← r, ne-eqb _ 0 h) at by-word)
 
 -- ---- the index on a side
-side-none : (ds ws : List ℕ) (right : Bool) (n at : ℕ) → n ≡ 0 → [] ≡ sideAt ds ws right n at
+side-none : (ds ws : List ℕ) (outer : ℕ → List ℕ) (right : Bool) (n at : ℕ) → n ≡ 0 → [] ≡ sideAt ds ws outer right n at
 unfolding sideAt
-side-none ds ws right n at e = rw e
+side-none ds ws outer right n at e = rw e
 
-side-at : (ds ws : List ℕ) (right : Bool) (n at : ℕ) → n ≢ 0 → sideAt ds ws right n at ≡ sideRead ds (getD ws at 0) (part ws at) right λ r second. sideAt ds ws r (n - 1) (childAt ws at second)
+side-at : (ds ws : List ℕ) (outer : ℕ → List ℕ) (right : Bool) (n at : ℕ) → n ≢ 0 → sideAt ds ws outer right n at ≡ sideRead (getD ws at 0) (part ws at) (leafIndex ds ws outer right at (getD ws at 0)) right λ r second. sideAt ds ws outer r (n - 1) (childAt ws at second)
 unfolding sideAt
-side-at ds ws right zero at h = absurd (h refl)
-side-at ds ws right (suc n) at h = let z : suc n - 1 ≡ n = omega arith in rw z
+side-at ds ws outer right zero at h = absurd (h refl)
+side-at ds ws outer right (suc n) at h = let z : suc n - 1 ≡ n = omega arith in rw z
 
 -- a part is the run up to its end
 pub part-run : (ws : List ℕ) (at : ℕ) {e : ℕ} → e ≡ at + length (part ws at) → take (e - at) (drop at ws) ≡ part ws at
@@ -118,29 +119,37 @@ pub inside : (ws : List ℕ) (n at : ℕ) {word rule : ℕ} → word ≡ cond (e
 inside ws n at w r h = let x = within ws n at w (some-word r h) in (x .0, there ws at (x .1) r h)
 
 -- by the tests that the code makes, one after the other
-module _ (ds ws : List ℕ) (right : Bool) (n at : ℕ) {word : ℕ} (w : word ≡ cond (eqb n 0) 0 (getD ws at 0)) where
-  word-side : (n ≢ 0) × (word ≡ getD ws at 0) → sideRead ds word (part ws at) right (λ r second. sideAt ds ws r (n - 1) (childAt ws at second)) ≡ sideAt ds ws right n at
-  word-side x = rw (side-at ds ws right n at (x .0), x .1)
+module _ (ds ws : List ℕ) (outer : ℕ → List ℕ) (right : Bool) (n at : ℕ) {word : ℕ} (w : word ≡ cond (eqb n 0) 0 (getD ws at 0)) where
+  word-side : (n ≢ 0) × (word ≡ getD ws at 0) → sideRead word (part ws at) (leafIndex ds ws outer right at word) right (λ r second. sideAt ds ws outer r (n - 1) (childAt ws at second)) ≡ sideAt ds ws outer right n at
+  word-side x = rw (side-at ds ws outer right n at (x .0), x .1)
 
   module _ {class : ℕ} (c : class ≡ numberOf (resultOf (word / 256))) where
-    pub side-index : class ≡ 1 → part ws at ≡ sideAt ds ws right n at
+    pub side-index : class ≡ 1 → part ws at ≡ sideAt ds ws outer right n at
     unfolding sideRead
     side-index h = rw (eq-eqb _ 1 (sym c ∙ h)) at (word-side (within ws n at w (some-class c h)))
 
     module _ (no-index : class ≢ 1) {rule : ℕ} (r : rule ≡ ruleAt (word / 256)) where
-      pub side-product : 4 ≤ rule / 4096 → {second : ℕ} → second ≡ childAt ws at true → 512 ∷ (sideAt ds ws right (n - 1) (at + 1) ++ sideAt ds ws right (n - 1) second) ≡ sideAt ds ws right n at
+      pub side-product : 4 ≤ rule / 4096 → {second : ℕ} → second ≡ childAt ws at true → 512 ∷ (sideAt ds ws outer right (n - 1) (at + 1) ++ sideAt ds ws outer right (n - 1) second) ≡ sideAt ds ws outer right n at
       unfolding sideRead childAt
       side-product h e = rw e (rw (ne-eqb _ 1 (λ z. no-index (c ∙ z)), ← r, le-leb 4 _ h) at (word-side (within ws n at w (some-word r (λ z. omega arith)))))
 
       module _ (no-product : rule / 4096 < 4) {k : ℕ} (d : k ≡ digit right rule) where
-        declared-by : (b : Bool) → eqb n 0 ≡ b → word ≡ cond b 0 (getD ws at 0) → k ≡ 0 → declaredIndex ds right word ≡ sideAt ds ws right n at
-        unfolding sideRead declaredIndex
-        declared-by true e x h = rw x (side-none ds ws right n at (eqb-true n 0 e))
-        declared-by false e x h = rw (ne-eqb _ 1 (λ z. no-index (c ∙ z)), ← r, lt-leb 4 _ no-product, eq-eqb (digit right rule) 0 (sym d ∙ h)) at (word-side (eqb-false n 0 e, x))
+        leaf-by : (b : Bool) → eqb n 0 ≡ b → word ≡ cond b 0 (getD ws at 0) → k ≡ 0 → leafIndex ds ws outer right at word ≡ sideAt ds ws outer right n at
+        unfolding sideRead leafIndex declaredIndex
+        leaf-by true e x h = rw x (side-none ds ws outer right n at (eqb-true n 0 e))
+        leaf-by false e x h = rw (ne-eqb _ 1 (λ z. no-index (c ∙ z)), ← r, lt-leb 4 _ no-product, eq-eqb (digit right rule) 0 (sym d ∙ h)) at (word-side (eqb-false n 0 e, x))
 
-        pub side-declared : k ≡ 0 → declaredIndex ds right word ≡ sideAt ds ws right n at
-        side-declared = declared-by (eqb n 0) refl w
+        leaf : k ≡ 0 → leafIndex ds ws outer right at word ≡ sideAt ds ws outer right n at
+        leaf = leaf-by (eqb n 0) refl w
 
-        pub side-child : k ≢ 0 → {child : ℕ} → child ≡ childAt ws at (leb 3 k) → sideAt ds ws (isRight k) (n - 1) child ≡ sideAt ds ws right n at
+        pub side-bound : k ≡ 0 → word / 256 ≡ 28 → boundIn ws outer at (word % 256) ≡ sideAt ds ws outer right n at
+        unfolding leafIndex
+        side-bound h b = rw (eq-eqb _ 28 b) at (leaf h)
+
+        pub side-declared : k ≡ 0 → word / 256 ≢ 28 → declaredIndex ds right word ≡ sideAt ds ws outer right n at
+        unfolding leafIndex
+        side-declared h b = rw (ne-eqb _ 28 b) at (leaf h)
+
+        pub side-child : k ≢ 0 → {child : ℕ} → child ≡ childAt ws at (leb 3 k) → sideAt ds ws outer (isRight k) (n - 1) child ≡ sideAt ds ws outer right n at
         unfolding sideRead
         side-child h e = rw (e, d) (rw (ne-eqb _ 1 (λ z. no-index (c ∙ z)), ← r, lt-leb 4 _ no-product, ne-eqb (digit right rule) 0 (λ z. h (d ∙ z))) at (word-side (within ws n at w (some-word r (some-rule right d h)))))

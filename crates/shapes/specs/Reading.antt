@@ -14,6 +14,7 @@ use Rattle.types.specs.Sorts.{Sort}
 use Rattle.typebook.specs.Code.Shapes.{Shape, shapeOf, numberOf}
 use Rattle.typebook.specs.Code.Lines.{ruleAt, isProduct}
 use Rattle.declarations.specs.Declarations.{basisAt, variableAt}
+use Rattle.shapes.specs.Bodies.{boundIn}
 
 -- ---- of a declared name, by the layout of the declarations
 -- the index whose words begin at an offset; how many they are stands at another
@@ -71,18 +72,23 @@ digit right r = cond right (r % 16) (r / 16 % 16)
 abbrev pub isRight : ℕ → Bool
 isRight k = eqb (k % 2) 0
 
--- the index on a side by the first word, with those of the children: an index is its own, the digits say whose it is, and where they do not it is declared
-unfoldable pub sideRead : List ℕ → ℕ → List ℕ → Bool → (Bool → Bool → List ℕ) → List ℕ
-sideRead ds w whole right child =
+-- the index of a head that has it from no child, by its word: of a bound basis the index of its sum, which `outer` tells where it stands before the words, and else as declared
+unfoldable pub leafIndex : List ℕ → List ℕ → (ℕ → List ℕ) → Bool → ℕ → ℕ → List ℕ
+leafIndex ds ws outer right at w = cond (eqb (w / 256) 28) (boundIn ws outer at (w % 256)) (declaredIndex ds right w)
+
+-- the index on a side by the first word, with those of the children: an index is its own, the digits say whose it is, and where they do not it is a leaf's
+unfoldable pub sideRead : ℕ → List ℕ → List ℕ → Bool → (Bool → Bool → List ℕ) → List ℕ
+sideRead w whole leaf right child =
     let h = w / 256 in
     let k = digit right (ruleAt h) in
     cond (eqb (numberOf (resultOf h)) 1) whole
     (cond (isProduct (ruleAt h / 4096)) (512 ∷ (child right false ++ child right true))
-    (cond (eqb k 0) (declaredIndex ds right w) (child (isRight k) (leb 3 k))))
+    (cond (eqb k 0) leaf (child (isRight k) (leb 3 k))))
 
-unfoldable pub sideAt : List ℕ → List ℕ → Bool → ℕ → ℕ → List ℕ
-sideAt ds ws right zero at = []
-sideAt ds ws right (suc n) at = sideRead ds (getD ws at 0) (part ws at) right λ r second. sideAt ds ws r n (childAt ws at second)
+unfoldable pub sideAt : List ℕ → List ℕ → (ℕ → List ℕ) → Bool → ℕ → ℕ → List ℕ
+sideAt ds ws outer right zero at = []
+sideAt ds ws outer right (suc n) at =
+    sideRead (getD ws at 0) (part ws at) (leafIndex ds ws outer right at (getD ws at 0)) right λ r second. sideAt ds ws outer r n (childAt ws at second)
 
 -- ---- of a typed part
 -- words that begin with those of a part, which is no deeper than a budget
@@ -97,6 +103,6 @@ abbrev pub sideIn : Bool → Shape → List ℕ
 sideIn right s = cond right (s .right) (s .left)
 
 -- the class, and the index on each side that has one
-pub record Read (ds ws : List ℕ) (budget at : ℕ) (S : Sort) : Type 0 where
+pub record Read (ds ws : List ℕ) (outer : ℕ → List ℕ) (budget at : ℕ) (S : Sort) : Type 0 where
   pub class : classAt ds ws budget at ≡ numberOf (shapeOf S .class)
-  pub side : (right : Bool) → sideIn right (shapeOf S) ≢ [] → sideAt ds ws right budget at ≡ sideIn right (shapeOf S)
+  pub side : (right : Bool) → sideIn right (shapeOf S) ≢ [] → sideAt ds ws outer right budget at ≡ sideIn right (shapeOf S)

@@ -1,6 +1,8 @@
 // What is read off the words of a typed part: its class, and the two indices of its type. The heads and the typing rules say where each is, and nothing is tested on
 // the way. Every function answers whatever the words are.
+use term::heads::Arity;
 use term::heads::INDEX_PRODUCT;
+use term::heads::arity_of;
 use term::heads::result_class;
 use term::parts::part_end;
 use typebook::number;
@@ -12,12 +14,14 @@ use words::run;
 use words::word_at;
 ghost use mathlib.Core.Path.{_≡_};
 ghost use mathlib.Core.Bool.{cond};
-ghost use Prim.Native.Nat.{_<_};
+ghost use Prim.Native.Nat.{_<_, _+_, _%_};
 ghost use lib.Dec.{eqb};
 ghost use lib.ListN.{length, getD};
 ghost use Rattle.words.specs.Words.{Added};
 ghost use Rattle.term.specs.Heads.{resultOf};
+ghost use Rattle.term.specs.Parts.{part};
 ghost use Rattle.typebook.specs.Code.Shapes.{numberOf};
+ghost use Rattle.shapes.specs.Bodies.{back, walked, boundIn, outerAt};
 ghost use Rattle.shapes.specs.Reading.{secondOf, variableIndex, declaredIndex, variableClass, childAt, turnedIf, classAt, digit, sideAt};
 
 // The number of a head's class, where the head alone has it.
@@ -126,6 +130,77 @@ fn declared_index(ds: &[u16], right: bool, word: u16) -> &[u16]
     run(ds, 0, 0)
 }
 
+// What a walk back comes to: the offset of a sum, or how many sums are left to be passed where it comes to the front of the words.
+struct Walked {
+    found: bool,
+    at: usize,
+}
+
+// The sum that binds the a-th basis around a place. One walk back from the place: `parts` whole parts stand between here and the nearest head above, and `left` sums are still to be passed in
+// whose bodies the place is. A sum has the place in its body where one part, its index, stands between.
+fn binder_of(ws: &[u16], at: usize, a: usize) -> Walked
+    ensures { λ r. ⌜ r ≡ walked (back (now (ws .entry)) at 0 a) ⌝ }
+{
+    let mut i = at;
+    let mut parts = 0;
+    let mut left = a;
+    while 0 < i {
+        i -= 1;
+        let word = word_at(ws, i);
+        if let Arity::Children(n) = arity_of(word) {
+            if n <= parts {
+                parts = parts - n + 1;
+            } else {
+                let between = parts;
+                parts = 0;
+                if between == 1 {
+                    if word / 256 == 27 {
+                        if left == 0 {
+                            return Walked { found: true, at: i };
+                        }
+                        left -= 1;
+                    }
+                }
+            }
+        }
+    }
+    Walked {
+        found: false,
+        at: left,
+    }
+}
+
+// The words of the part that begins at `from`, written behind what stands in `out`.
+fn append_part(out: &mut [u16], at: usize, ws: &[u16], from: usize) -> usize
+    ensures { λ r. ⌜ Added (now (out .entry)) at (part (now (ws .entry)) from) (now (out .exit)) r ⌝ }
+{
+    append_run(out, at, ws, from, part_end(ws, from))
+}
+
+// The words of the index of the a-th basis that is bound around an offset, likewise: the part behind its sum's head. `ws` are the words of `term` from a place on, and what is bound outside them is
+// bound around the place.
+fn append_bound(
+    term: &[u16],
+    place: usize,
+    ws: &[u16],
+    from: usize,
+    a: usize,
+    out: &mut [u16],
+    at: usize,
+) -> usize
+    ensures { λ r. ⌜ Added (now (out .entry)) at (boundIn (now (ws .entry)) (outerAt (now (term .entry)) place) from a) (now (out .exit)) r ⌝ }
+{
+    let near = binder_of(ws, from, a);
+    if near.found {
+        return append_part(out, at, ws, near.at + 1);
+    }
+    let far = binder_of(term, place, near.at);
+    if far.found {
+        return append_part(out, at, term, far.at + 1);
+    }
+    append_run(out, at, term, 0, 0)
+}
+
 // The word at an offset, or that of no head where no budget is left.
 fn word_within(ws: &[u16], from: usize, budget: usize) -> u16
     ensures { λ r. ⌜ r ≡ cond (eqb budget 0) 0 (getD (now (ws .entry)) from 0) ⌝ }
@@ -143,10 +218,12 @@ fn digit_of(right: bool, rule: u16) -> u16
     if right { rule % 16 } else { rule / 16 % 16 }
 }
 
-// The words of the left index (the rows), or of the right one (the columns), of the part that begins at `from`, written behind what stands in `out`. It calls itself no
-// deeper than `budget`.
+// The words of the left index (the rows), or of the right one (the columns), of the part that begins at `from`, written behind what stands in `out`. `ws` are the words of `term` from a place on. It
+// calls itself no deeper than `budget`.
 pub fn append_side(
     ds: &[u16],
+    term: &[u16],
+    place: usize,
     ws: &[u16],
     from: usize,
     right: bool,
@@ -154,24 +231,37 @@ pub fn append_side(
     out: &mut [u16],
     at: usize,
 ) -> usize
-    ensures { λ r. ⌜ Added (now (out .entry)) at (sideAt (now (ds .entry)) (now (ws .entry)) right budget from) (now (out .exit)) r ⌝ }
+    ensures { λ r. ⌜ Added (now (out .entry)) at (sideAt (now (ds .entry)) (now (ws .entry)) (outerAt (now (term .entry)) place) right budget from) (now (out .exit)) r ⌝ }
 {
     let word = word_within(ws, from, budget);
     let head = (word / 256) as usize;
     if class_by_head(head) == 1 {
-        return append_run(out, at, ws, from, part_end(ws, from));
+        return append_part(out, at, ws, from);
     }
     let rule = rule_of(head);
     if 4 <= rule / 4096 {
         let second = child_at(ws, from, true);
         let first = append_word(out, at, INDEX_PRODUCT);
-        let mid = append_side(ds, ws, from + 1, right, budget - 1, out, first);
-        return append_side(ds, ws, second, right, budget - 1, out, mid);
+        let mid = append_side(ds, term, place, ws, from + 1, right, budget - 1, out, first);
+        return append_side(ds, term, place, ws, second, right, budget - 1, out, mid);
     }
     let whose = digit_of(right, rule);
     if whose == 0 {
+        if head == 28 {
+            return append_bound(term, place, ws, from, (word % 256) as usize, out, at);
+        }
         return append(out, at, declared_index(ds, right, word));
     }
     let child = child_at(ws, from, 3 <= whose);
-    append_side(ds, ws, child, whose % 2 == 0, budget - 1, out, at)
+    append_side(
+        ds,
+        term,
+        place,
+        ws,
+        child,
+        whose % 2 == 0,
+        budget - 1,
+        out,
+        at,
+    )
 }

@@ -3,8 +3,8 @@ use Rattle.algebra.specs.Semirings.{Arithmetic, StarSemiring}
 use Rattle.algebra.specs.Gaussian.{gaussian}
 use Rattle.algebra.proofs.Gaussian.{gaussian-laws}
 use Rattle.term.specs.Trees.{Tree}
-use Rattle.types.specs.Sorts.{Sort, Context}
-use Rattle.types.specs.Rules.{IsType, WellFormed, Typed}
+use Rattle.types.specs.Sorts.{Sort, IsType, Context}
+use Rattle.types.specs.Rules.{WellFormed, Typed}
 use Rattle.meaning.specs.Choices.{Choice}
 use Rattle.meaning.specs.Meaning.{stands, mean}
 use Rattle.meaning.specs.Sorted.{Fits, Same}

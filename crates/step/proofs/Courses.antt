@@ -13,7 +13,8 @@ use Rattle.term.specs.Trees.{Tree}
 use Rattle.term.proofs.Places.{subtree-formed}
 use Rattle.types.specs.Sorts.{Sort, Context}
 use Rattle.types.specs.Rules.{WellFormed, Typed}
-use Rattle.types.proofs.Replace.{part-typed}
+use Rattle.types.specs.Inside.{inside}
+use Rattle.types.proofs.Replace.{part-typed, inside-well}
 use Rattle.rules.specs.Outcomes.{Taken, Outcome, good, no-rule, no-place, no-instance, too-big}
 use Rattle.rules.specs.Steps.{Step, limited, atPart, atPlace, byRule, stepOf, Move, Sides, sideNumber, chosen, put, Run, runOf}
 use Rattle.rules.proofs.Rules.{decides}
@@ -27,7 +28,7 @@ unfolding stepOf byRule atPlace atPart limited
 taken-step Γ W S t s u d k =
     let p = part-typed W t (s .place) (k .part) S (d .rules) (k .there) in
     let formed = subtree-formed t (s .place) (k .part) (d .form .formed) (k .there) in
-    let e = decides Γ W (s .rule) (k .r) (k .rule) (s .i) (s .j) (k .part) (k .new) formed (p .0) (p .1) .1 (k .is) in
+    let e = decides (inside Γ t (s .place)) (inside-well W t (s .place)) (s .rule) (k .r) (k .rule) (s .i) (s .j) (k .part) (k .new) formed (p .0) (p .1) .1 (k .is) in
     rw (k .rule, k .there, e, ← k .result, k .limits)
 
 -- ---- both sides stay typed

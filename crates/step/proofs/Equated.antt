@@ -1,57 +1,69 @@
 -- An equation at a part: from the match of its left side to the words of its right side.
 use mathlib.Core.Path.{_≡_, refl, sym, _∙_, ap}
-use mathlib.Core.Logic.{_≢_}
-use mathlib.Core.Bool.{Bool, true, false, true≢false}
-use mathlib.Core.List.{List, []}
+use mathlib.Core.Logic.{_≢_, _⊎_, inl, inr, ⊎-elim}
+use mathlib.Core.Bool.{Bool, true, false, _&&_, _||_, true≢false}
+use mathlib.Core.List.{List, [], _∷_, _++_}
 use mathlib.Core.Option.{Option, some, none}
-use Prim.Native.Nat.{ℕ, _+_, _-_, _/_, _≤_, _<_}
+use Prim.Native.Nat.{ℕ, _+_, _-_, _*_, _/_, _≤_, _<_}
 use native.Mathlib.Omega.{arith}
-use borrow.Author.Tests.{le-leb, eq-eqb, ne-eqb, ltb-true}
-use lib.Dec.{eqb}
+use borrow.Author.Tests.{le-leb, eq-eqb, ne-eqb, lt-ltb, ltb-true}
+use lib.Arith.{digits-div}
+use lib.Dec.{eqb, ltb}
 use lib.ListN.{length, take, drop, replicate, length-append}
 use Rattle.words.specs.Words.{overlaid}
+use Rattle.term.specs.Heads.{word}
 use Rattle.term.specs.Terms.{maxChildren}
 use Rattle.term.specs.Trees.{Tree, Forest, node, none as no-tree, _▹_, count, words, words*, Formed}
 use Rattle.term.proofs.Scan.{count-words}
-use Rattle.types.specs.Sorts.{Sort, index, basis, scalar, ket, bra, operator, Context}
-use Rattle.types.specs.Rules.{_⊢_∶_, WellFormed}
+use Rattle.types.specs.Sorts.{Context}
+use Rattle.types.specs.Rules.{WellFormed}
 use Rattle.types.specs.TypeOf.{typeOf}
-use Rattle.types.proofs.Complete.{complete}
+use Rattle.types.proofs.Indices.{bodies-well}
+use Rattle.declarations.proofs.Entries.{well-formed}
 use Rattle.rules.specs.Patterns.{Pattern, #_, first, second, _⟨⟩, _⟨_⟩, _⟨_∣_⟩}
-use Rattle.rules.specs.Table.{Kind, any, a-ket, a-bra, an-operator, Rule, _⇒_▷_, spreading, removing, absorbing, merging, collecting, swapping, ruleOf}
-use Rattle.rules.specs.Rewrite.{sortOf, wanted, fill, match, holes, filled, rewrite}
+use Rattle.rules.specs.Table.{Condition, _⇒_▷_, ruleOf}
+use Rattle.rules.specs.Rewrite.{sortOf, fill, match, holes, satisfied, filled, rewrite}
 use Rattle.rules.specs.Steps.{few, few*}
 use Rattle.rules.proofs.Formed.{formed-few}
-use Rattle.rules.proofs.Good.{met, inOrder, below, asked, good, both, all-three, every-good}
-use Rattle.rules.proofs.Matching.{AllFormed, none-formed, matched}
-use Rattle.typebook.specs.Code.Shapes.{shapeOf, numberOf}
+use Rattle.rules.proofs.Good.{met, asked, flat, asksNone, ofWords, both, all-three, Fine, fine, every-good}
+use Rattle.rules.proofs.Known.{either}
+use Rattle.rules.proofs.Lines.{not-so}
+use Rattle.rules.proofs.Matching.{AllFormed, AllTyped, none-formed, matched}
 use Rattle.rulebook.specs.declared.Row.{Row}
-use Rattle.rulebook.specs.Code.Rows.{kindNumber, patternWords, wordsIn}
+use Rattle.rulebook.specs.Code.Rows.{conditionNumber, patternWords, wordsIn}
 use Rattle.rulebook.proofs.Rows.{sizes, kind-at}
-use Rattle.rulebook.proofs.Made.{made, every-made}
+use Rattle.rulebook.proofs.Made.{headWord, made, head-plain, every-made}
 use Rattle.rulebook.proofs.Copied.{sides-short, left-copied, right-copied}
 use Rattle.matcher.specs.declared.Match.{Match}
-use Rattle.matcher.specs.Matching.{Found, holds, stops, matchOf}
+use Rattle.matcher.specs.Matching.{Holds, Found, holds, stops, matchOf}
 use Rattle.matcher.proofs.Theorems.{matches}
-use Rattle.step.specs.Code.Building.{chosenIndex, allAsk, Caught}
+use Rattle.step.specs.Code.Building.{around, chosenIndex, allAsk, indexless, Caught, AllSorted}
 use Rattle.step.specs.Code.Site.{Site, Equation}
 use Rattle.step.proofs.Right.{ask-words}
 use Rattle.step.proofs.Indices.{chosen-short}
 use Rattle.step.proofs.Sited.{caught}
 
-kind-few : (k : Kind) → kindNumber k ≤ 3
-kind-few any = omega arith
-kind-few a-ket = omega arith
-kind-few a-bra = omega arith
-kind-few an-operator = omega arith
+-- ---- a right side that asks for no index has no word for one
+indexless-++ : (vs ws : List ℕ) → indexless vs ≡ true → indexless ws ≡ true → indexless (vs ++ ws) ≡ true
+unfolding indexless
+indexless-++ [] ws a b = b
+indexless-++ (v ∷ vs) ws a b = let p = both (ltb (v / 256) 253 || eqb (v / 256) 255) (indexless vs) a in rw (p .0) (indexless-++ vs ws (p .1) b)
 
--- a kind other than any is asked of hole 0
-asks-hole : (k : Kind) (n : ℕ) → asked k n ≡ true → kindNumber k ≢ 0 → 0 < n
-unfolding asked
-asks-hole any n e h = absurd (h refl)
-asks-hole a-ket n e h = ltb-true 0 n e
-asks-hole a-bra n e h = ltb-true 0 n e
-asks-hole an-operator n e h = ltb-true 0 n e
+indexless-head : (w n : ℕ) (ws : List ℕ) → headWord w n ≡ true → indexless ws ≡ true → indexless (w ∷ ws) ≡ true
+unfolding indexless
+indexless-head w n ws h e = rw (lt-ltb (w / 256) 253 (head-plain w n h)) e
+
+none-asked : (p : Pattern) → made p ≡ true → asksNone p ≡ true → indexless (patternWords p) ≡ true
+unfolding made asksNone patternWords indexless
+none-asked (# k) e n = let z : (255 * 256 + k) / 256 ≡ 255 = digits-div 255 {m = 256} {r = k} (omega (arith, ltb-true k 5 e)) in rw z
+none-asked (first k) e n = absurd (not-so n)
+none-asked (second k) e n = absurd (not-so n)
+none-asked (l ⟨⟩) e n = indexless-head (word l 0) 0 [] e refl
+none-asked (l ⟨ p ⟩) e n = let b = both (headWord (word l 1) 1) (made p) e in indexless-head (word l 1) 1 (patternWords p) (b .0) (none-asked p (b .1) n)
+none-asked (l ⟨ p ∣ q ⟩) e n =
+    let b = all-three (headWord (word l 2) 2) (made p) (made q) e in
+    let m = both (asksNone p) (asksNone q) n in
+    indexless-head (word l 2) 2 (patternWords p ++ patternWords q) (b .0) (indexless-++ (patternWords p) (patternWords q) (none-asked p (b .1 .0) (m .0)) (none-asked q (b .1 .1) (m .1)))
 
 -- ---- the row of an equation
 module _ {n : ℕ} {row : Row} (e : Equation n row) where
@@ -74,37 +86,48 @@ module _ {n : ℕ} {row : Row} (e : Equation n row) where
   pub right-made : made (e .right) ≡ true
   right-made = every-made n (e .rule) .1
 
-  pub kind-wanted : row .d ≡ kindNumber (e .kind)
-  kind-wanted = rw (e .is) (kind-at n (e .rule))
-
-  pub few-kinds : row .d ≤ 3
-  few-kinds = rw kind-wanted (kind-few (e .kind))
+  pub condition-is : row .d ≡ conditionNumber (e .condition)
+  condition-is = rw (e .is) (kind-at n (e .rule))
 
 -- ---- what a match found, as trees
 none-by : {ws : List ℕ} {n : ℕ} {m : Match} {o : Option (List Tree)} → Found ws n m o → m .whole ≡ false → o ≡ none
 none-by (holds h at) w = absurd (true≢false (sym (h .whole) ∙ w))
 none-by (stops z) w = refl
 
--- matching looks at no context
-no-context : Context
-no-context = record { types = 0; bases = []; variables = [] }
+module _ (n : ℕ) {k : Condition} {l r : Pattern} (rule : ruleOf n ≡ some (k ⇒ l ▷ r)) {ds term : List ℕ} {place : ℕ} {ws : List ℕ} (s : Site ds term place ws) where
+  abbrev Γ : Context
+  Γ = around ds (s .bodies)
 
-module _ (n : ℕ) {k : Kind} {l r : Pattern} (rule : ruleOf n ≡ some (k ⇒ l ▷ r)) {ds ws : List ℕ} (s : Site ds ws) where
-  sides : (inOrder l 0 ≡ true) × ((below r (met l 0) ≡ true) × (asked k (met l 0) ≡ true))
-  unfolding good
-  sides = all-three (inOrder l 0) (below r (met l 0)) (asked k (met l 0)) (every-good n (k ⇒ l ▷ r) rule)
+  pub well : WellFormed Γ
+  well = bodies-well (well-formed ds (s .good)) (s .bodies)
+
+  fines : Fine k l r
+  fines = fine k l r (every-good n (k ⇒ l ▷ r) rule)
 
   pub record Caughts (m : Match) : Type 0 where
     pub trees : List Tree
     pub matches : match l (s .tree) [] ≡ some trees
     pub formed : AllFormed trees
+    pub typed : flat l ≡ true → AllTyped Γ trees
     pub many : m .held ≡ met l 0
-    pub held : Caught ds ws m trees
+    pub holds-all : Holds ws m trees
+    pub ends : m .at ≡ length (words (s .tree))
+
+  abbrev pub held : {m : Match} → Caughts m → Caught ds ws m
+  held x = caught s (x .holds-all) (x .ends) (x .formed)
 
   caughts-by : {m : Match} {o : Option (List Tree)} → match l (s .tree) [] ≡ o → Found ws (length (words (s .tree))) m o → m .whole ≡ true → Caughts m
   caughts-by e (holds {c} h at) w =
-      let x = matched no-context l (s .tree) [] c (sides .0) none-formed (s .formed) e in
-      record { trees = c; matches = e; formed = x .formed; many = h .many ∙ x .many; held = caught s h at (x .formed) }
+      let x = matched Γ l (s .tree) [] c (fines .order) none-formed (s .formed) e in
+      record {
+        trees = c;
+        matches = e;
+        formed = x .formed;
+        typed = λ f. x .typed f well (s .sort) (s .typed) (λ j h. absurd (omega (arith, h)));
+        many = h .many ∙ x .many;
+        holds-all = h;
+        ends = at;
+      }
   caughts-by e (stops z) w = absurd (true≢false (sym w ∙ z))
 
   -- the words of the left side were walked
@@ -118,12 +141,23 @@ module _ (n : ℕ) {k : Kind} {l r : Pattern} (rule : ruleOf n ≡ some (k ⇒ l
     pub found-none : m .whole ≡ false → match l (s .tree) [] ≡ none
     found-none w = none-by found w
 
-  -- the right side asks for holes of the left side, and a kind other than any for the first
+  -- the right side asks for holes of the left side, and so does the condition
   pub right-asks : {m : Match} → Caughts m → allAsk (m .held) (patternWords r) ≡ true
-  right-asks x = rw (x .many) (ask-words (met l 0) r (every-made n rule .1) (sides .1 .0))
+  right-asks x = rw (x .many) (ask-words (met l 0) r (every-made n rule .1) (fines .below-holes))
 
-  pub kind-asks : {m : Match} → Caughts m → kindNumber k ≢ 0 → 0 < m .held
-  kind-asks x h = rw (x .many) (asks-hole k (met l 0) (sides .1 .1) h)
+  pub condition-asks : {m : Match} → Caughts m → asked k (m .held) ≡ true
+  condition-asks x = rw (x .many) (fines .asks)
+
+  -- where they ask for a type, the holes are typed
+  known : {m : Match} (x : Caughts m) → ((ofWords k ≡ true) ⊎ AllSorted (held x)) × ((asksNone r ≡ true) ⊎ AllSorted (held x))
+  known x =
+      either (flat l) (ofWords k && asksNone r) (λ f. (inr (x .typed f), inr (x .typed f))) (λ e. let p = both (ofWords k) (asksNone r) e in (inl (p .0), inl (p .1))) (fines .flat-or)
+
+  pub condition-known : {m : Match} (x : Caughts m) → (ofWords k ≡ true) ⊎ AllSorted (held x)
+  condition-known x = known x .0
+
+  pub right-known : {m : Match} (x : Caughts m) → (indexless (patternWords r) ≡ true) ⊎ AllSorted (held x)
+  right-known x = let right = every-made n rule .1 in ⊎-elim (λ e. inl (none-asked r right e)) (λ a. inr a) (known x .1)
 
 -- ---- a filled right side has few children at each node
 mutual
@@ -151,7 +185,7 @@ few-fill Γ W c f (l ⟨ p ⟩) = rw (few-fill Γ W c f p)
 few-fill Γ W c f (l ⟨ p ∣ q ⟩) = rw (few-fill Γ W c f p, few-fill Γ W c f q)
 
 -- ---- what `rewrite` gives
-module _ (Γ : Context) (k : Kind) (l r : Pattern) (t : Tree) where
+module _ (Γ : Context) (k : Condition) (l r : Pattern) (t : Tree) where
   pub no-index : (i j : ℕ) → i ≢ 0 → rewrite Γ (k ⇒ l ▷ r) i j t ≡ none
   unfolding rewrite
   no-index i j h = rw (ne-eqb i 0 h)
@@ -165,42 +199,10 @@ module _ (Γ : Context) (k : Kind) (l r : Pattern) (t : Tree) where
     unfolding rewrite filled
     no-left h = rw (eq-eqb i 0 e, eq-eqb j 0 f, h)
 
-    pub other-kind : (d : List Tree) → match l t [] ≡ some d → wanted k (sortOf Γ (holes d 0)) ≡ false → rewrite Γ (k ⇒ l ▷ r) i j t ≡ none
+    pub unmet : (d : List Tree) → match l t [] ≡ some d → satisfied Γ k (holes d) ≡ false → rewrite Γ (k ⇒ l ▷ r) i j t ≡ none
     unfolding rewrite filled
-    other-kind d h w = rw (eq-eqb i 0 e, eq-eqb j 0 f, h, w)
+    unmet d h w = rw (eq-eqb i 0 e, eq-eqb j 0 f, h, w)
 
-    pub equated : (d : List Tree) → match l t [] ≡ some d → wanted k (sortOf Γ (holes d 0)) ≡ true → rewrite Γ (k ⇒ l ▷ r) i j t ≡ some (fill Γ (holes d) r)
+    pub equated : (d : List Tree) → match l t [] ≡ some d → satisfied Γ k (holes d) ≡ true → rewrite Γ (k ⇒ l ▷ r) i j t ≡ some (fill Γ (holes d) r)
     unfolding rewrite filled
     equated d h w = rw (eq-eqb i 0 e, eq-eqb j 0 f, h, w)
-
--- ---- the kind that a rule wants of hole 0
-kind-wanted-by : (S : Sort) (k : Kind) → kindNumber k ≢ 0 → eqb (numberOf (shapeOf S .class)) (3 + kindNumber k) ≡ wanted k S
-kind-wanted-by S any h = absurd (h refl)
-kind-wanted-by (index σ) a-ket h = refl
-kind-wanted-by (basis σ) a-ket h = refl
-kind-wanted-by scalar a-ket h = refl
-kind-wanted-by (ket σ) a-ket h = refl
-kind-wanted-by (bra σ) a-ket h = refl
-kind-wanted-by (operator σ τ) a-ket h = refl
-kind-wanted-by (index σ) a-bra h = refl
-kind-wanted-by (basis σ) a-bra h = refl
-kind-wanted-by scalar a-bra h = refl
-kind-wanted-by (ket σ) a-bra h = refl
-kind-wanted-by (bra σ) a-bra h = refl
-kind-wanted-by (operator σ τ) a-bra h = refl
-kind-wanted-by (index σ) an-operator h = refl
-kind-wanted-by (basis σ) an-operator h = refl
-kind-wanted-by scalar an-operator h = refl
-kind-wanted-by (ket σ) an-operator h = refl
-kind-wanted-by (bra σ) an-operator h = refl
-kind-wanted-by (operator σ τ) an-operator h = refl
-
-pub any-kind : (S : Sort) (k : Kind) → kindNumber k ≡ 0 → true ≡ wanted k S
-any-kind S any e = refl
-any-kind S a-ket e = absurd (omega arith)
-any-kind S a-bra e = absurd (omega arith)
-any-kind S an-operator e = absurd (omega arith)
-
--- the number that was read off it, of its sort
-pub wanted-by : (Γ : Context) (t : Tree) (S : Sort) → Γ ⊢ t ∶ S → (k : Kind) (kind n : ℕ) → kind ≡ kindNumber k → kind ≢ 0 → n ≡ numberOf (shapeOf S .class) → eqb n (3 + kind) ≡ wanted k (sortOf Γ t)
-wanted-by Γ t S d k kind n e other f = rw (f, e, complete Γ d 0) (kind-wanted-by S k (λ x. other (e ∙ x)))

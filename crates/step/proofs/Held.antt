@@ -10,8 +10,8 @@ use Rattle.term.specs.Parts.{treeIn}
 use Rattle.term.specs.Terms.{maxWords}
 use Rattle.term.specs.Trees.{Tree, words, depth}
 use Rattle.term.proofs.Parsing.{parse-tree}
-use Rattle.types.specs.Rules.{IsType, Typed}
-use Rattle.types.specs.Sorts.{Sort}
+use Rattle.types.specs.Rules.{Typed}
+use Rattle.types.specs.Sorts.{Sort, IsType}
 use Rattle.declarations.specs.Declarations.{contextIn, goodDeclarations}
 use Rattle.declarations.proofs.Entries.{counts-in}
 use Rattle.typing.specs.declared.terms.Typing as A

@@ -14,17 +14,18 @@ use Rattle.term.specs.Parts.{parse, treeIn}
 use Rattle.types.specs.Sorts.{Sort, index, basis, scalar, ket, bra, operator, Context}
 use Rattle.types.specs.Rules.{_⊢_∶_, Proper, WellFormed}
 use Rattle.types.specs.TypeOf.{Typed, typed, untyped, typeOf}
+use Rattle.types.proofs.Indices.{bodies-well}
 use Rattle.types.proofs.Complete.{complete}
 use Rattle.types.proofs.Proper.{proper, index-short}
 use Rattle.types.proofs.Sound.{sound}
 use Rattle.rules.specs.Patterns.{no-index, firstIndex, secondIndex}
 use Rattle.rules.specs.Rewrite.{sortIn, sortOf}
 use Rattle.typebook.specs.Code.Shapes.{shapeOf, numberOf}
-use Rattle.declarations.specs.Declarations.{contextIn}
+use Rattle.declarations.proofs.Entries.{well-formed}
 use Rattle.shapes.specs.Reading.{sideIn, Read, classAt, sideAt}
 use Rattle.shapes.proofs.Begun.{begins-tree}
 use Rattle.shapes.proofs.Theorems.{reads, index-read}
-use Rattle.step.specs.Code.Building.{HasSort, chosenIndex}
+use Rattle.step.specs.Code.Building.{around, HasSort, chosenIndex}
 
 -- ---- an index of a type is short, and so is what stands for none
 none-short : length (words no-index) ≤ maxIndex
@@ -87,33 +88,33 @@ module _ (n : ℕ) where
   first-missing (operator σ τ) e h = absurd (omega arith)
 
 -- ---- what is read off a typed part at the front of the words
-module _ (ds ws : List ℕ) (h : HasSort ds ws) where
+module _ (ds : List ℕ) (bodies : List Tree) (outer : ℕ → List ℕ) (ws : List ℕ) (h : HasSort ds bodies outer ws) where
   abbrev sort : Sort
-  sort = h .1 .2 .0
+  sort = h .sorted .0
 
-  reading : Read ds ws maxDepth 0 sort
-  reading = reads ds ws maxDepth 0 (h .1 .0) sort (h .0) (h .1 .1) (h .1 .2 .1)
+  reading : Read ds ws outer maxDepth 0 sort
+  reading = reads ds ws outer maxDepth 0 bodies (h .tree) sort (h .good) (h .begins) (h .sorted .1) (h .bound)
 
   -- the index that typing finds
   abbrev pub indexOf : Bool → List ℕ
-  indexOf second = words (chosenIndex second (sortOf (contextIn ds) (treeIn (parse ws))))
+  indexOf second = words (chosenIndex second (sortOf (around ds bodies) (treeIn (parse ws))))
 
   index-is : (b second : Bool) → second ≡ b → {vs : List ℕ} → vs ≡ words (chosenIndex b sort) → vs ≡ indexOf second
-  index-is b second e x = rw (begins-tree (h .1 .1), complete (contextIn ds) (h .1 .2 .1) 0, e) x
+  index-is b second e x = rw (begins-tree (h .begins), complete (bodies-well (well-formed ds (h .good)) bodies) (h .sorted .1) 0, e) x
 
   module _ (n : ℕ) (class : n ≡ classAt ds ws maxDepth 0) where
     pub class-is : n ≡ numberOf (shapeOf sort .class)
     class-is = class ∙ reading .class
 
     module _ (second : Bool) (is : second ≡ true) where
-      pub second-read : n ≡ 6 → sideAt ds ws true maxDepth 0 ≡ indexOf second
+      pub second-read : n ≡ 6 → sideAt ds ws outer true maxDepth 0 ≡ indexOf second
       second-read e = index-is true second is (index-read reading true (secondIndex sort) (second-there n sort class-is e))
 
       pub no-second : n ≢ 6 → 1280 ∷ [] ≡ indexOf second
       no-second e = index-is true second is (second-missing n sort class-is e)
 
     module _ (second : Bool) (is : second ≡ false) where
-      pub first-read : 4 ≤ n → sideAt ds ws (eqb n 5) maxDepth 0 ≡ indexOf second
+      pub first-read : 4 ≤ n → sideAt ds ws outer (eqb n 5) maxDepth 0 ≡ indexOf second
       first-read e = index-is false second is (index-read reading (eqb n 5) (firstIndex sort) (first-there n sort class-is e))
 
       pub no-first : n < 4 → 1280 ∷ [] ≡ indexOf second

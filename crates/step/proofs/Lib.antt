@@ -3,6 +3,7 @@ mod Indices
 mod Pieces
 mod Right
 mod Sited
+mod Conditions
 mod Equated
 mod Dispatched
 mod Limits

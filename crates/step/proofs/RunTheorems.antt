@@ -23,6 +23,7 @@ use Rattle.term.proofs.Comparing.{first-difference}
 use Rattle.types.specs.Sorts.{Sort, Context}
 use Rattle.types.specs.Rules.{_⊢_∶_, WellFormed, Typed}
 use Rattle.types.proofs.Complete.{unique}
+use Rattle.types.proofs.Strays.{typed-no-stray}
 use Rattle.meaning.specs.Choices.{Choice}
 use Rattle.meaning.specs.Sorted.{Fits}
 use Rattle.declarations.specs.Declarations.{contextIn}
@@ -37,7 +38,7 @@ use Rattle.lent.specs.Lent.{moveIn, movesIn, stepsFault}
 use Rattle.lent.specs.Faults.{fault, faultIn}
 use Rattle.step.specs.Runs.{refusal, compared, answered, runFrom, runIn, runAnswer, slice, leftAfter, rightAfter}
 use Rattle.step.specs.Derivations.{AllTaken, Accepted, Decision, untouched, refused, stopped, differ, accepted, Kept}
-use Rattle.lent.specs.Refusals.{Refused, wrong-size, bad-declarations, no-term, bad-steps, left-untyped, left-no-type, right-untyped, right-no-type, types-differ, Begun, Judged, found, none}
+use Rattle.lent.specs.Refusals.{Refused, wrong-size, bad-declarations, no-term, bad-steps, left-stray, left-untyped, left-no-type, right-stray, right-untyped, right-no-type, types-differ, Begun, Judged, found, none}
 use Rattle.step.specs.Statements.{Accepts, Decides, Keeps, Proves, Pieces}
 use Rattle.step.proofs.Held.{its-type}
 use Rattle.step.proofs.Alike.{alike}
@@ -59,7 +60,7 @@ rules-at : {ds ws : List ℕ} {n : ℕ} {t u : Tree} {S : Sort} → HeldTerm ds 
 rules-at h k = rw (same-tree h k) (k .rules)
 
 same-sort : {ds ws : List ℕ} {n : ℕ} {t u : Tree} {S R : Sort} → TypedTerm ds ws n t S → TypedTerm ds ws n u R → S ≡ R
-same-sort {ds} h k = unique (contextIn ds) (h .rules) (rules-at (held-of h) k)
+same-sort {ds} h k = unique (well-formed ds (h .good)) (h .rules) (rules-at (held-of h) k)
 
 cleared-all : (ws : List ℕ) → replicate (length ws) 0 ≡ cleared ws 0
 unfolding cleared
@@ -86,15 +87,20 @@ module _ (ds left : List ℕ) (n : ℕ) (right : List ℕ) (m : ℕ) (steps : Li
   both b = record { left = its-type (b .left-term); right = its-type (b .right-term) }
 
   -- ---- where both terms have one type and the steps are in order, there is no fault
+  well : {p : Sides} {S : Sort} → Begins p S → WellFormed Γ
+  well b = well-formed ds (b .left-term .good)
+
   at-odds : {c s k : ℕ} {p : Sides} {S : Sort} → Refused ds left n right m steps count c s k → Begins p S → ⊥
   at-odds (wrong-size x) b = x (b .left-term .size, b .right-term .size)
   at-odds (bad-declarations x e) b = let f = b .left-term .good in let z : _≡_ {A = ℕ} 0 1 = cc in omega arith
   at-odds (no-term x g h) b = h _ _ (held-of (b .left-term), held-of (b .right-term))
   at-odds (bad-steps x h) b = h (b .order)
-  at-odds {S} (left-untyped x o h f) b = h (S, rules-at (x .0) (b .left-term))
-  at-odds (left-no-type x o d h) b = h (rw (unique Γ d (rules-at (x .0) (b .left-term))) (b .left-term .isType))
-  at-odds {S} (right-untyped x o t h f) b = h (S, rules-at (x .1) (b .right-term))
-  at-odds (right-no-type x o t d h) b = h (rw (unique Γ d (rules-at (x .1) (b .right-term))) (b .right-term .isType))
+  at-odds {S} (left-stray x o f) b = typed-no-stray Γ (well b) _ S (rules-at (x .0) (b .left-term)) _ (f .there) (f .is) (f .stray)
+  at-odds {S} (left-untyped x o n h f) b = h (S, rules-at (x .0) (b .left-term))
+  at-odds (left-no-type x o d h) b = h (rw (unique (well b) d (rules-at (x .0) (b .left-term))) (b .left-term .isType))
+  at-odds {S} (right-stray x o t f) b = typed-no-stray Γ (well b) _ S (rules-at (x .1) (b .right-term)) _ (f .there) (f .is) (f .stray)
+  at-odds {S} (right-untyped x o t n h f) b = h (S, rules-at (x .1) (b .right-term))
+  at-odds (right-no-type x o t d h) b = h (rw (unique (well b) d (rules-at (x .1) (b .right-term))) (b .right-term .isType))
   at-odds (types-differ o h k x) b = x (same-sort h (b .left-term) ∙ sym (same-sort k (b .right-term)))
 
   no-fault-by : {f : Fault} {p : Sides} {S : Sort} → Judged ds left n right m steps count f → Begins p S → f .code ≡ 0
@@ -157,9 +163,11 @@ module _ (ds left : List ℕ) (n : ℕ) (right : List ℕ) (m : ℕ) (steps : Li
   refused-code (bad-declarations x e) = omega arith
   refused-code (no-term x g h) = omega arith
   refused-code (bad-steps x h) = λ e. h (fitting steps count e)
-  refused-code (left-untyped x o h f) = omega arith
+  refused-code (left-stray x o f) = omega arith
+  refused-code (left-untyped x o n h f) = omega arith
   refused-code (left-no-type x o d h) = omega arith
-  refused-code (right-untyped x o t h f) = omega arith
+  refused-code (right-stray x o t f) = omega arith
+  refused-code (right-untyped x o t n h f) = omega arith
   refused-code (right-no-type x o t d h) = omega arith
   refused-code (types-differ o h k x) = omega arith
 

@@ -2,7 +2,7 @@
 use mathlib.Core.Path.{_≡_, refl, sym, _∙_, ap}
 use mathlib.Core.Logic.{_≢_}
 use mathlib.Core.Bool.{Bool, true, false, and-eq-true-iff}
-use mathlib.Core.List.{List}
+use mathlib.Core.List.{List, [], append-nil}
 use mathlib.Core.Option.{Option, some, none}
 use Prim.Native.Nat.{ℕ, zero, suc, _+_, _-_, _≤_, _<_}
 use native.Mathlib.Decide.{decLt}
@@ -20,7 +20,9 @@ use Rattle.term.specs.Terms.{maxWords, maxChildren}
 use Rattle.term.proofs.Parsing.{parse-words}
 use Rattle.term.proofs.Places.{place, subtree-inside, subtree-formed, subtree-depth}
 use Rattle.types.specs.Sorts.{Context}
-use Rattle.types.proofs.Replace.{part-typed}
+use Rattle.types.specs.Inside.{inside}
+use Rattle.types.proofs.Indices.{inside-bodies}
+use Rattle.types.proofs.Replace.{part-typed, inside-well}
 use Rattle.declarations.specs.Declarations.{contextIn}
 use Rattle.declarations.proofs.Entries.{well-formed}
 use Rattle.rules.specs.Table.{Rule, ruleOf}
@@ -37,6 +39,9 @@ use Rattle.families.specs.Writing.{mayDeepen, Writes, Measures}
 use Rattle.families.proofs.Depths.{no-deeper}
 use Rattle.families.proofs.Written.{Way, refused, done, exceeded, way, way-size}
 use Rattle.families.proofs.Lines.{Ruled, unruled}
+use Rattle.shapes.specs.Bodies.{indexBy, back, boundIn, outerAt, Bound}
+use Rattle.shapes.proofs.Theorems.{bound-inside}
+use Rattle.step.specs.Code.Building.{around}
 use Rattle.step.specs.Code.Making.{Termed, Fresh, Made}
 use Rattle.step.specs.Code.Site.{Site}
 use Rattle.step.proofs.Limits.{too-many}
@@ -54,11 +59,11 @@ module _ (Γ : Context) (t : Tree) (s : Step) where
     step-21 e = rw (rule, e)
 
     module _ {p : Tree} (there : subtree t (s .place) ≡ found p) where
-      step-22 : rewrite Γ r (s .i) (s .j) p ≡ none → stepOf Γ t s ≡ record { code = 22; tree = t }
+      step-22 : rewrite (inside Γ t (s .place)) r (s .i) (s .j) p ≡ none → stepOf Γ t s ≡ record { code = 22; tree = t }
       unfolding stepOf byRule atPlace atPart
       step-22 e = rw (rule, there, e)
 
-      step-limited : {q : Tree} → rewrite Γ r (s .i) (s .j) p ≡ some q → stepOf Γ t s ≡ limited t (replace t (s .place) q)
+      step-limited : {q : Tree} → rewrite (inside Γ t (s .place)) r (s .i) (s .j) p ≡ some q → stepOf Γ t s ≡ limited t (replace t (s .place) q)
       unfolding stepOf byRule atPlace atPart
       step-limited e = rw (rule, there, e)
 
@@ -67,9 +72,9 @@ outside-by : (t : Tree) (k : ℕ) → length (words t) ≤ k → (o : Subtree) �
 outside-by t k h outside e = e
 outside-by t k h (found s) e = absurd (omega (arith, subtree-inside t k s e))
 
-module _ {ds term : List ℕ} (x : Termed ds term) (k : ℕ) (inside : k < length term) where
+module _ {ds term : List ℕ} (x : Termed ds term) (k : ℕ) (below : k < length term) where
   within-words : k < length (words (x .tree))
-  within-words = rw (x .is) inside
+  within-words = rw (x .is) below
 
   there : subtree (x .tree) k ≡ found (place (x .tree) k within-words .here)
   there = place (x .tree) k within-words .is
@@ -78,17 +83,27 @@ module _ {ds term : List ℕ} (x : Termed ds term) (k : ℕ) (inside : k < lengt
   abbrev tail : List ℕ
   tail = take (length term - k) (drop k term)
 
-  pub site : Site ds tail
+  -- the context there, by what is bound around
+  there-context : inside (contextIn ds) (x .tree) k ≡ around ds (inside (contextIn ds) (x .tree) k .bound)
+  there-context = inside-bodies (contextIn ds) (x .tree) k
+
+  there-bound : Bound [] (outerAt term k) 0 (inside (contextIn ds) (x .tree) k .bound)
+  unfolding outerAt boundIn indexBy back contextIn
+  there-bound = bound-inside (contextIn ds) refl (x .tree) k term [] (x .typed .form .formed) within-words (sym (append-nil (words (x .tree)) ∙ x .is))
+
+  pub site : Site ds term k tail
   site =
       let p = place (x .tree) k within-words in
       let d = part-typed (well-formed ds (x .good)) (x .tree) k (p .here) (x .sort) (x .typed .rules) (p .is) in
       record {
         good = x .good;
+        bodies = inside (contextIn ds) (x .tree) k .bound;
+        bound = there-bound;
         tree = p .here;
         formed = subtree-formed (x .tree) k (p .here) (x .typed .form .formed) (p .is);
         shallow = omega (arith, subtree-depth (x .tree) k (p .here) (p .is), x .typed .form .shallow);
         sort = d .0;
-        typed = d .1;
+        typed = rw there-context at (d .1);
         after = p .after;
         whole = to-end term k ∙ ap (drop k) (sym (x .is) ∙ p .whole) ∙ drop-at (p .before) _ k (p .offset);
       }
@@ -96,6 +111,10 @@ module _ {ds term : List ℕ} (x : Termed ds term) (k : ℕ) (inside : k < lengt
   site-tree : site .tree ≡ place (x .tree) k within-words .here
   unfolding site
   site-tree = refl
+
+  site-context : around ds (site .bodies) ≡ inside (contextIn ds) (x .tree) k
+  unfolding site
+  site-context = sym there-context
 
   -- and where the part ends in them
   site-part : (part tail 0 ≡ words (site .tree)) × (partDepth tail 0 ≡ depth (site .tree))
@@ -106,7 +125,7 @@ module _ {ds term : List ℕ} (x : Termed ds term) (k : ℕ) (inside : k < lengt
   site-size end e = e ∙ ap length (site-part .0)
 
   pub site-room : (end : ℕ) → end ≡ length (part tail 0) → k + end ≤ maxWords
-  site-room end e = omega (arith, inside, site-end site (site-size end e), ap length (to-end term k), length-drop k term, x .typed .form .short, ap length (x .is))
+  site-room end e = omega (arith, below, site-end site (site-size end e), ap length (to-end term k), length-drop k term, x .typed .form .short, ap length (x .is))
 
 -- ---- a result with too many children somewhere has them in its place too
 mutual
@@ -152,20 +171,24 @@ module _ {ds term : List ℕ} (x : Termed ds term) (s : Step) where
   -- what rewriting a part promises of the scratch slice
   abbrev Promise : List ℕ → List ℕ → Rewritten → Type 0
   Promise old out r =
-      (z : Site ds (take (length term - s .place) (drop (s .place) term))) (rule : Rule) → ruleOf (s .rule) ≡ some rule → Writes (rewrite (contextIn ds) rule (s .i) (s .j) (z .tree)) old 0 out r
+      (z : Site ds term (s .place) (take (length term - s .place) (drop (s .place) term))) (rule : Rule) → ruleOf (s .rule) ≡ some rule
+      → Writes (rewrite (around ds (z .bodies)) rule (s .i) (s .j) (z .tree)) old 0 out r
 
-  module _ {row : Row} (k : Ruled row (s .rule)) (inside : s .place < length term) (old : List ℕ) (size : length old ≡ maxWords) (out : List ℕ) (r : Rewritten) (promise : Promise old out r) where
+  module _ {row : Row} (k : Ruled row (s .rule)) (below : s .place < length term) (old : List ℕ) (size : length old ≡ maxWords) (out : List ℕ) (r : Rewritten) (promise : Promise old out r) where
     abbrev here : Tree
-    here = place (x .tree) (s .place) (within-words x (s .place) inside) .here
+    here = place (x .tree) (s .place) (within-words x (s .place) below) .here
+
+    abbrev Δ : Context
+    Δ = inside (contextIn ds) (x .tree) (s .place)
 
     abbrev result : Option Tree
-    result = rewrite (contextIn ds) (k .rule) (s .i) (s .j) here
+    result = rewrite Δ (k .rule) (s .i) (s .j) here
 
     is-there : subtree (x .tree) (s .place) ≡ found here
-    is-there = there x (s .place) inside
+    is-there = there x (s .place) below
 
     its-way : Way old 0 out r result
-    its-way = way result (rw (site-tree x (s .place) inside) at (promise (site x (s .place) inside) (k .rule) (k .is)))
+    its-way = way result (rw (site-tree x (s .place) below, site-context x (s .place) below) at (promise (site x (s .place) below) (k .rule) (k .is)))
 
     out-size : length out ≡ maxWords
     out-size = way-size its-way ∙ size
@@ -177,7 +200,7 @@ module _ {ds term : List ℕ} (x : Termed ds term) (s : Step) where
     made-22-by (exceeded q f c l) e h =
         refused-by out r out-size 23
         (step-limited (contextIn ds) (x .tree) s (k .is) is-there e
-        ∙ too-many (x .tree) (replace (x .tree) (s .place) q) (many-by (x .tree) (s .place) q (within-words x (s .place) inside) f _ refl)) (omega arith) c
+        ∙ too-many (x .tree) (replace (x .tree) (s .place) q) (many-by (x .tree) (s .place) q (within-words x (s .place) below) f _ refl)) (omega arith) c
 
     pub made-22 : r .code ≢ 0 → MadeBy out r
     made-22 = made-22-by its-way refl
@@ -185,10 +208,11 @@ module _ {ds term : List ℕ} (x : Termed ds term) (s : Step) where
     result-formed : (q : Tree) → result ≡ some q → few q ≡ true → Formed q
     result-formed q e f =
         let W = well-formed ds (x .good) in
+        let X = inside-well W (x .tree) (s .place) in
         let p = part-typed W (x .tree) (s .place) here (x .sort) (x .typed .rules) is-there in
         let formed = subtree-formed (x .tree) (s .place) here (x .typed .form .formed) is-there in
-        let i = decides (contextIn ds) W (s .rule) (k .rule) (k .is) (s .i) (s .j) here q formed (p .0) (p .1) .0 e in
-        typed-formed W (rule-keeps W (s .rule) (k .rule) (k .is) (s .i) (s .j) here q (p .0) i (p .1)) f
+        let i = decides Δ X (s .rule) (k .rule) (k .is) (s .i) (s .j) here q formed (p .0) (p .1) .0 e in
+        typed-formed X (rule-keeps X (s .rule) (k .rule) (k .is) (s .i) (s .j) here q (p .0) i (p .1)) f
 
     -- and where it did not, with what is told of the part
     module _ {m : Replaced} (part-is : Measures (s .rule) (take (length term - s .place) (drop (s .place) term)) m) where
@@ -201,10 +225,10 @@ module _ {ds term : List ℕ} (x : Termed ds term) (s : Step) where
       deepens-is = part-is .deepens ∙ ap mayDeepen (k .is)
 
       was-deep : m .deepens ≡ true → m .depth ≡ depth here
-      was-deep z = (rw (sym (part-is .deepens) ∙ z) at (part-is .depth)) ∙ site-part x (s .place) inside .1 ∙ ap depth (site-tree x (s .place) inside)
+      was-deep z = (rw (sym (part-is .deepens) ∙ z) at (part-is .depth)) ∙ site-part x (s .place) below .1 ∙ ap depth (site-tree x (s .place) below)
 
       stays-flat : (q : Tree) → result ≡ some q → m .deepens ≡ false → depth q ≤ depth here
-      stays-flat q e z = no-deeper (k .rule) (sym deepens-is ∙ z) (contextIn ds) (s .i) (s .j) here q e
+      stays-flat q e z = no-deeper (k .rule) (sym deepens-is ∙ z) Δ (s .i) (s .j) here q e
 
       fresh-of : (q : Tree) → result ≡ some q → few q ≡ true → Added old 0 (words q) out (r .end) → Fresh term (s .place) (s .place + m .size) (m .deepens) (m .depth) out (r .end)
       fresh-of q e f a =
@@ -216,7 +240,7 @@ module _ {ds term : List ℕ} (x : Termed ds term) (s : Step) where
             shallow = x .typed .form .shallow;
             part = here;
             there = is-there;
-            ends = ap (λ (n : ℕ). s .place + n) (rw (site-tree x (s .place) inside) at (site-size x (s .place) inside (m .size) (part-is .size)));
+            ends = ap (λ (n : ℕ). s .place + n) (rw (site-tree x (s .place) below) at (site-size x (s .place) below (m .size) (part-is .size)));
             was = was-deep;
             result = q;
             result-formed = result-formed q e f;

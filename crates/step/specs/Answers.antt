@@ -28,7 +28,8 @@ between ws end = cleared ws end
 unfoldable pub stepIn : List ℕ → List ℕ → ℕ → S.Step → R.Stepped
 stepIn ds ws n s = R.stepOf (contextIn ds) (treeIn (parse (take n ws))) (asked s)
 
--- 01: "They test 1; 7 for bad declarations; 8, also for a length that is not the term's; 10; 11. Side is 0, at is 0 for 7 and 8", step 0 and length 0
+-- 01: "They test 1; 7 for bad declarations; 8, also for a length that is not the term's; 10; 11. Side is 0, at is 0 for 7 and 8", step 0 and length 0; 02, CR 1: "single step and typing included, 13
+-- is as 10"
 abbrev pub refusal : ℕ → ℕ → A.Answer
 refusal code at = record { code = code; side = 0; step = 0; at = at; length = 0 }
 

@@ -7,40 +7,58 @@ use words::append_run;
 use words::append_word;
 ghost use mathlib.Core.Path.{_≡_};
 ghost use mathlib.Core.Bool.{true};
-ghost use mathlib.Core.List.{List};
+ghost use mathlib.Core.Logic.{_⊎_};
+ghost use mathlib.Core.List.{List, [], _∷_};
 ghost use Prim.Native.Nat.{_+_, _≤_};
 ghost use lib.ListN.{length};
 ghost use Rattle.words.specs.Words.{Added};
 ghost use Rattle.term.specs.Trees.{Tree, words};
 ghost use Rattle.term.specs.Parts.{parse, treeIn};
-ghost use Rattle.declarations.specs.Declarations.{contextIn};
 ghost use Rattle.rules.specs.Rewrite.{sortOf};
-ghost use Rattle.step.specs.Code.Building.{HasSort, chosenIndex, piece, pieces, asks, allAsk, Caught};
+ghost use Rattle.shapes.specs.Bodies.{outerAt};
+ghost use Rattle.step.specs.Code.Building.{around, HasSort, chosenIndex, piece, pieces, asks, allAsk, indexless, Caught, AllSorted};
 
 // The index of the type of the part with which the words begin, written behind what stands there: an operator's second is that of its columns, and a bra's
-// only one too. Where the type has none it is 5:0, the `no-index` of `rules`.
-fn append_index(ds: &[u16], part: &[u16], second: bool, out: &mut [u16], at: usize) -> usize
-    requires { ⌜ HasSort (now ds) (now part) ⌝ }
-    ensures { λ r. ⌜ Added (now (out .entry)) at (words (chosenIndex second (sortOf (contextIn (now (ds .entry))) (treeIn (parse (now (part .entry))))))) (now (out .exit)) r ⌝ }
+// only one too. Where the type has none it is 5:0, the `no-index` of `rules`. The part stands in the bodies that are around the place of the term.
+fn append_index(
+    ds: &[u16],
+    term: &[u16],
+    place: usize,
+    part: &[u16],
+    second: bool,
+    out: &mut [u16],
+    at: usize,
+) -> usize
+    requires { ⌜ ((bodies : List Tree) × HasSort (now ds) bodies (outerAt (now term) place) (now part)) ⌝ }
+    ensures { λ r. ⌜ ((bodies : List Tree) → HasSort (now (ds .entry)) bodies (outerAt (now (term .entry)) place) (now (part .entry)) → Added (now (out .entry)) at (words (chosenIndex second (sortOf (around (now (ds .entry)) bodies) (treeIn (parse (now (part .entry))))))) (now (out .exit)) r) ⌝ }
 {
     // 4 a ket, 5 a bra, 6 an operator
     let class = class_of(ds, part, 0, 64);
     if second {
         if class == 6 {
-            return append_side(ds, part, 0, true, 64, out, at);
+            return append_side(ds, term, place, part, 0, true, 64, out, at);
         }
         return append_word(out, at, SCALAR_ZERO);
     }
     if class < 4 {
         return append_word(out, at, SCALAR_ZERO);
     }
-    append_side(ds, part, 0, class == 5, 64, out, at)
+    append_side(ds, term, place, part, 0, class == 5, 64, out, at)
 }
 
 // One word of the right side, for a match of the part with which the words begin. What a hole holds is a further part of them.
-fn build_word(ds: &[u16], ws: &[u16], found: Match, word: u16, out: &mut [u16], at: usize) -> usize
-    requires { ⌜ ((c : List Tree) × Caught (now ds) (now ws) found c) × (asks (found .held) word ≡ true) ⌝ }
-    ensures { λ r. ⌜ ((c : List Tree) → Caught (now (ds .entry)) (now (ws .entry)) found c → Added (now (out .entry)) at (piece (contextIn (now (ds .entry))) c word) (now (out .exit)) r) ⌝ }
+fn build_word(
+    ds: &[u16],
+    term: &[u16],
+    place: usize,
+    ws: &[u16],
+    found: Match,
+    word: u16,
+    out: &mut [u16],
+    at: usize,
+) -> usize
+    requires { ⌜ ((x : Caught (now ds) (now ws) found) × (x .outer ≡ outerAt (now term) place) × ((indexless (word ∷ []) ≡ true) ⊎ AllSorted x)) × (asks (found .held) word ≡ true) ⌝ }
+    ensures { λ r. ⌜ ((x : Caught (now (ds .entry)) (now (ws .entry)) found) → x .outer ≡ outerAt (now (term .entry)) place → (indexless (word ∷ []) ≡ true) ⊎ AllSorted x → Added (now (out .entry)) at (piece (around (now (ds .entry)) (x .bodies)) (x .trees) word) (now (out .exit)) r) ⌝ }
 {
     if word / 256 < 253 {
         return append_word(out, at, word);
@@ -51,25 +69,27 @@ fn build_word(ds: &[u16], ws: &[u16], found: Match, word: u16, out: &mut [u16], 
         let end = found.ends[hole];
         return append_run(out, at, ws, start, end);
     }
-    append_index(ds, &ws[start..], word / 256 == 253, out, at)
+    append_index(ds, term, place, &ws[start..], word / 256 == 253, out, at)
 }
 
 // All words of a right side.
 pub fn build_side(
     ds: &[u16],
+    term: &[u16],
+    place: usize,
     ws: &[u16],
     found: Match,
     side: &[u16],
     out: &mut [u16],
     at: usize,
 ) -> usize
-    requires { ⌜ ((c : List Tree) × Caught (now ds) (now ws) found c) × (at ≤ length (now out) + 1) × (allAsk (found .held) (now side) ≡ true) ⌝ }
-    ensures { λ r. ⌜ ((c : List Tree) → Caught (now (ds .entry)) (now (ws .entry)) found c → Added (now (out .entry)) at (pieces (contextIn (now (ds .entry))) c (now (side .entry))) (now (out .exit)) r) ⌝ }
+    requires { ⌜ ((x : Caught (now ds) (now ws) found) × (x .outer ≡ outerAt (now term) place) × ((indexless (now side) ≡ true) ⊎ AllSorted x)) × (at ≤ length (now out) + 1) × (allAsk (found .held) (now side) ≡ true) ⌝ }
+    ensures { λ r. ⌜ ((x : Caught (now (ds .entry)) (now (ws .entry)) found) → x .outer ≡ outerAt (now (term .entry)) place → (indexless (now (side .entry)) ≡ true) ⊎ AllSorted x → Added (now (out .entry)) at (pieces (around (now (ds .entry)) (x .bodies)) (x .trees) (now (side .entry))) (now (out .exit)) r) ⌝ }
 {
     let mut done = at;
     let mut k = 0;
     while k < side.len() {
-        done = build_word(ds, ws, found, side[k], out, done);
+        done = build_word(ds, term, place, ws, found, side[k], out, done);
         k += 1;
     }
     done

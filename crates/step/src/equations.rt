@@ -7,35 +7,56 @@ use matcher::match_words;
 use rulebook::Row;
 use rulebook::copy_from;
 use shapes::class_of;
+use term::heads::OWN_BASIS;
 ghost use mathlib.Core.Path.{_≡_};
-ghost use mathlib.Core.Logic.{_≢_};
-ghost use mathlib.Core.List.{List};
-ghost use Prim.Native.Nat.{_≤_, _<_};
-ghost use Rattle.term.specs.Trees.{Tree};
-ghost use Rattle.declarations.specs.Declarations.{contextIn};
-ghost use Rattle.rules.specs.Table.{Kind, _⇒_▷_};
-ghost use Rattle.rules.specs.Rewrite.{sortOf, wanted, holes, rewrite};
-ghost use Rattle.rulebook.specs.Code.Rows.{kindNumber};
-ghost use Rattle.step.specs.Code.Building.{Caught};
+ghost use mathlib.Core.Bool.{true};
+ghost use mathlib.Core.Logic.{_⊎_};
+ghost use Rattle.rules.specs.Table.{Condition, _⇒_▷_};
+ghost use Rattle.rules.specs.Instances.{lacks};
+ghost use Rattle.rules.specs.Rewrite.{satisfied, holes, rewrite};
+ghost use Rattle.rules.proofs.Good.{asked, ofWords};
+ghost use Rattle.rulebook.specs.Code.Rows.{conditionNumber};
+ghost use Rattle.step.specs.Code.Building.{around, Caught, AllSorted};
 ghost use Rattle.step.specs.Code.Site.{Site, Equation};
 ghost use Rattle.families.specs.Writing.{Writes};
 
-// Whether the part in hole 0 is of the kind that a rule wants, where it wants one.
-fn is_wanted(ds: &[u16], ws: &[u16], found: Match, kind: u16) -> bool
-    requires { ⌜ ((c : List Tree) × Caught (now ds) (now ws) found c) × (kind ≢ 0 → 0 < found .held) × (kind ≤ 3) ⌝ }
-    ensures { λ r. ⌜ ((c : List Tree) (k : Kind) → Caught (now (ds .entry)) (now (ws .entry)) found c → kind ≡ kindNumber k → r ≡ wanted k (sortOf (contextIn (now (ds .entry))) (holes c 0))) ⌝ }
+// Whether no word is the given one.
+fn is_without(ws: &[u16], word: u16) -> bool
+    ensures { λ r. ⌜ r ≡ lacks word (now (ws .entry)) ⌝ }
 {
-    if kind == 0 {
+    let mut k = 0;
+    while k < ws.len() {
+        if word == ws[k] {
+            return false;
+        }
+        k += 1;
+    }
+    true
+}
+
+// Whether the parts in the holes meet the condition of a rule: that in hole 0 is of a kind, or that in hole 1 does not use the basis that the part binds.
+fn is_met(ds: &[u16], ws: &[u16], found: Match, condition: u16) -> bool
+    requires { ⌜ ((x : Caught (now ds) (now ws) found) × (k : Condition) × (condition ≡ conditionNumber k) × ((ofWords k ≡ true) ⊎ AllSorted x) × (asked k (found .held) ≡ true)) ⌝ }
+    ensures { λ r. ⌜ ((x : Caught (now (ds .entry)) (now (ws .entry)) found) (k : Condition) → condition ≡ conditionNumber k → (ofWords k ≡ true) ⊎ AllSorted x → r ≡ satisfied (around (now (ds .entry)) (x .bodies)) k (holes (x .trees))) ⌝ }
+{
+    if condition == 0 {
         return true;
+    }
+    if condition == 4 {
+        let start = found.starts[1];
+        let end = found.ends[1];
+        return is_without(&ws[start..end], OWN_BASIS);
     }
     let from = found.starts[0];
     // classes are numbered as kinds are, from the scalars' 3 on
-    class_of(ds, &ws[from..], 0, 64) == 3 + kind
+    class_of(ds, &ws[from..], 0, 64) == 3 + condition
 }
 
-// What the equation of a number, with its row, makes of the part with which the words begin.
+// What the equation of a number, with its row, makes of the part with which the words begin: those of the term from the place on.
 pub fn equate(
     ds: &[u16],
+    term: &[u16],
+    place: usize,
     ws: &[u16],
     rule: usize,
     row: Row,
@@ -43,8 +64,8 @@ pub fn equate(
     j: usize,
     out: &mut [u16],
 ) -> Rewritten
-    requires { ⌜ Site (now ds) (now ws) × Equation rule row ⌝ }
-    ensures { λ r. ⌜ ((s : Site (now (ds .entry)) (now (ws .entry))) (e : Equation rule row) → Writes (rewrite (contextIn (now (ds .entry))) (e .kind ⇒ e .left ▷ e .right) i j (s .tree)) (now (out .entry)) 0 (now (out .exit)) r) ⌝ }
+    requires { ⌜ Site (now ds) (now term) place (now ws) × Equation rule row ⌝ }
+    ensures { λ r. ⌜ ((s : Site (now (ds .entry)) (now (term .entry)) place (now (ws .entry))) (e : Equation rule row) → Writes (rewrite (around (now (ds .entry)) (s .bodies)) (e .condition ⇒ e .left ▷ e .right) i j (s .tree)) (now (out .entry)) 0 (now (out .exit)) r) ⌝ }
 {
     if i != 0 {
         return refused(22);
@@ -60,9 +81,9 @@ pub fn equate(
     if !found.whole {
         return refused(22);
     }
-    if !is_wanted(ds, ws, found, row.d) {
+    if !is_met(ds, ws, found, row.d) {
         return refused(22);
     }
-    let done = build_side(ds, ws, found, &sides[n..n + m], out, 0);
+    let done = build_side(ds, term, place, ws, found, &sides[n..n + m], out, 0);
     Rewritten { code: 0, end: done }
 }

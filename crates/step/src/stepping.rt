@@ -98,7 +98,17 @@ fn make(ds: &[u16], term: &[u16], s: Step, out: &mut [u16]) -> Rewritten
         return refused(21);
     }
     let ws = &term[place..];
-    let made = rewrite_part(ds, ws, rule, row, s.i as usize, s.j as usize, out);
+    let made = rewrite_part(
+        ds,
+        term,
+        place,
+        ws,
+        rule,
+        row,
+        s.i as usize,
+        s.j as usize,
+        out,
+    );
     if made.code != 0 {
         return Rewritten {
             code: made.code,

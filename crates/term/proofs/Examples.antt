@@ -39,7 +39,7 @@ the-edges :
     (read (5 * 256 + 1) ≡ unread)
     × (read (7 * 256) ≡ unread)
     × (read (7 * 256 + 255) ≡ labelled scalar-sum 255)
-    × (read (27 * 256) ≡ unread)
+    × (read (29 * 256) ≡ unread)
     × (part (512 ∷ 256 ∷ []) 0 ≡ [])
     × (part (1536 ∷ 65535 ∷ []) 0 ≡ 1536 ∷ [])
     × (part [] 0 ≡ [])

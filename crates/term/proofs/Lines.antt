@@ -18,7 +18,7 @@ use Rattle.term.specs.Code.Lines.{digit, lineOf, lineAt, classOf}
 use Rattle.term.proofs.Readings.{few, few-at}
 
 -- a line at a number past the table is the unknown head's, which is 0
-pub line-past : (h : ℕ) → 27 ≤ h → lineAt h ≡ 0
+pub line-past : (h : ℕ) → 29 ≤ h → lineAt h ≡ 0
 unfolding lineAt heads
 line-past h k = ap lineOf (List·getD-eq-default heads unknown k)
 

@@ -40,7 +40,7 @@ numbered : Every Numbered 0 heads
 unfolding heads word
 numbered =
     tt ⨾ (λ a. refl) ⨾ refl ⨾ (λ a. refl) ⨾ refl ⨾ refl ⨾ refl ⨾ (λ n. refl) ⨾ (λ n. refl) ⨾ refl ⨾ refl ⨾ refl ⨾ refl ⨾ refl
-    ⨾ refl ⨾ refl ⨾ refl ⨾ refl ⨾ refl ⨾ refl ⨾ (λ n. refl) ⨾ refl ⨾ refl ⨾ refl ⨾ refl ⨾ refl ⨾ (λ a. refl) ⨾ tt
+    ⨾ refl ⨾ refl ⨾ refl ⨾ refl ⨾ refl ⨾ refl ⨾ (λ n. refl) ⨾ refl ⨾ refl ⨾ refl ⨾ refl ⨾ refl ⨾ (λ a. refl) ⨾ refl ⨾ (λ a. refl) ⨾ tt
 
 word-of : (k : ℕ) (h : Head) → Numbered k h → (a : ℕ) (l : Label) (n : ℕ) → reading h a ≡ labelled l n → word l n ≡ k * 256 + a
 unfolding reading

@@ -11,11 +11,11 @@ use Rattle.term.specs.declared.heads.Class.the-variants.{Nothing, Index,
 
 -- A head with its name, if it has one: what a node of a tree carries. The number of its children is the tree's to say
 pub data Label : Type 0 where
-  type-name basis-name variable : ℕ → Label
+  type-name basis-name variable bound-basis : ℕ → Label
   index-product pair : Label
   scalar-zero scalar-one scalar-sum scalar-product conjugate delta dot : Label
   zero-ket zero-bra zero-operator identity basis-ket basis-bra : Label
-  adjoint scale add tensor mulk mulb outer mulo : Label
+  adjoint scale add tensor mulk mulb outer mulo big-sum : Label
 
 -- A line of the table: the label, the sort of the result, the sorts of the children.
 -- `named`: h:a, the low byte is a name. `counted`: h:n, the low byte is the number of children. `fixed`: the low byte is 0
@@ -25,7 +25,8 @@ pub data Head : Type 0 where
   fixed : Label → Class → List Class → Head
   counted : Label → Class → Class → Head
 
--- 01: "The heads stand in one table with the sort and the number of children of each". The k-th line is head k
+-- 01: "The heads stand in one table with the sort and the number of children of each". The k-th line is head k; from 27 on they are those of 02, CR 1: "head 27 (children: an index and a body,
+-- which is no index or basis) and head 28:a, the basis bound by the a-th 27 whose body holds it"
 unfoldable pub heads : List Head
 heads =
     unknown
@@ -55,36 +56,45 @@ heads =
     ∷ fixed outer Operator (Ket ∷ Bra ∷ [])
     ∷ fixed mulo Operator (Operator ∷ Operator ∷ [])
     ∷ named variable Term
+    ∷ fixed big-sum Term (Index ∷ Term ∷ [])
+    ∷ named bound-basis Basis
     ∷ []
+
+-- the head of a label over n children, and what it carries beside it: its name, or n where it counts its children
+unfoldable pub headOf : Label → ℕ → ℕ × ℕ
+headOf (type-name a) n = (1, a)
+headOf index-product n = (2, 0)
+headOf (basis-name a) n = (3, a)
+headOf pair n = (4, 0)
+headOf scalar-zero n = (5, 0)
+headOf scalar-one n = (6, 0)
+headOf scalar-sum n = (7, n)
+headOf scalar-product n = (8, n)
+headOf conjugate n = (9, 0)
+headOf delta n = (10, 0)
+headOf dot n = (11, 0)
+headOf zero-ket n = (12, 0)
+headOf zero-bra n = (13, 0)
+headOf zero-operator n = (14, 0)
+headOf identity n = (15, 0)
+headOf basis-ket n = (16, 0)
+headOf basis-bra n = (17, 0)
+headOf adjoint n = (18, 0)
+headOf scale n = (19, 0)
+headOf add n = (20, n)
+headOf tensor n = (21, 0)
+headOf mulk n = (22, 0)
+headOf mulb n = (23, 0)
+headOf outer n = (24, 0)
+headOf mulo n = (25, 0)
+headOf (variable a) n = (26, a)
+headOf big-sum n = (27, 0)
+headOf (bound-basis a) n = (28, a)
 
 -- 01: "A word is head × 256 + a". The word of a label over n children
 unfoldable pub word : Label → ℕ → ℕ
-word (type-name a) n = 1 * 256 + a
-word index-product n = 2 * 256
-word (basis-name a) n = 3 * 256 + a
-word pair n = 4 * 256
-word scalar-zero n = 5 * 256
-word scalar-one n = 6 * 256
-word scalar-sum n = 7 * 256 + n
-word scalar-product n = 8 * 256 + n
-word conjugate n = 9 * 256
-word delta n = 10 * 256
-word dot n = 11 * 256
-word zero-ket n = 12 * 256
-word zero-bra n = 13 * 256
-word zero-operator n = 14 * 256
-word identity n = 15 * 256
-word basis-ket n = 16 * 256
-word basis-bra n = 17 * 256
-word adjoint n = 18 * 256
-word scale n = 19 * 256
-word add n = 20 * 256 + n
-word tensor n = 21 * 256
-word mulk n = 22 * 256
-word mulb n = 23 * 256
-word outer n = 24 * 256
-word mulo n = 25 * 256
-word (variable a) n = 26 * 256 + a
+unfolding headOf
+word l n = headOf l n .0 * 256 + headOf l n .1
 
 -- What a word says: a known head's label with its number of children, or nothing
 pub data Reading : Type 0 where

@@ -26,6 +26,10 @@ maxChildren = 255
 abbrev pub maxNames : ℕ
 maxNames = 32
 
+-- 02, CR 1: "at most 8 bodies nested"
+abbrev pub maxBodies : ℕ
+maxBodies = 8
+
 -- How many heads stand above the place behind a run of words, and how many whole parts stand between it and the nearest of them. From right to left, as `parse`: a head that
 -- wants more parts than stand behind it has the place below it, any other is a whole part with those that it wants
 pub record Above : Type 0 where

@@ -32,6 +32,8 @@ pub const SCALAR_ONE: u16 = 0x0600; // 6
 
 pub const SCALING: u16 = 0x1300; // 19
 
+pub const OWN_BASIS: u16 = 0x1c00; // 28:0
+
 // The table: a line a head, four hexadecimal digits: its form, the class of its result and those of its two children.
 // The form: 0 no such head; 1 the low byte is a name; 2 the low byte is the number of children, all of the third digit's
 // class; 3, 4, 5 a low byte of 0 and none, one or two children. The classes are numbered as in `class_of`.
@@ -67,6 +69,8 @@ fn line_of(head: usize) -> u16
         24 => 0x5645, // 24   OUTER
         25 => 0x5666, // 25   MULO
         26 => 0x1800, // 26:a variable
+        27 => 0x5818, // 27   sum over a basis
+        28 => 0x1200, // 28:a bound basis
         _ => 0,
     }
 }
@@ -88,11 +92,11 @@ fn class_of(digit: u16) -> Class
     }
 }
 
-// The forms once more, the first digits of the table's lines: a digit a head from the right, of heads 0 to 15 and of 16 to 26. Scanning asks for nothing else. Its next step goes by
+// The forms once more, the first digits of the table's lines: a digit a head from the right, of heads 0 to 15 and of 16 to 28. Scanning asks for nothing else. Its next step goes by
 // the form, and by a `match` it would jump to another place for each head, which no processor foresees in a term of many heads.
 const FORMS_FROM_0: u64 = 0x4544554223351510;
 
-const FORMS_FROM_16: u64 = 0x15555525444;
+const FORMS_FROM_16: u64 = 0x1515555525444;
 
 // The form of a head, and 0 for a number that is no head's.
 fn form_of(head: usize) -> usize
@@ -101,7 +105,7 @@ fn form_of(head: usize) -> usize
     if head < 16 {
         return ((FORMS_FROM_0 >> (head * 4)) % 16) as usize;
     }
-    if head < 27 {
+    if head < 29 {
         return ((FORMS_FROM_16 >> ((head - 16) * 4)) % 16) as usize;
     }
     0

@@ -1,5 +1,6 @@
 -- Tokens, read by a function for the code to equal, and written. What to believe is `token`; of known heads what is written is read, and what is read was written (`Written` of the proofs).
--- Document 01, "The file": "Tokens of heads 1, 3, 7, 8, 20, 26 are h:a, of the other known heads h; unknown heads come either way".
+-- Document 01, "The file": "Tokens of heads 1, 3, 7, 8, 20, 26 are h:a, of the other known heads h; unknown heads come either way"; 02, CR 1: "In the file 27 stands bare, 28 with its
+-- number".
 use mathlib.Core.Bool.{Bool, true, false, cond, _||_, not}
 use mathlib.Core.List.{List, [], _∷_, _++_}
 use mathlib.Core.Option.{Option, some, none, Option·elim}

@@ -8,14 +8,13 @@ use lib.Dec.{eqb, leb}
 use lib.ListN.{length}
 use Rattle.words.specs.Words.{sameWords}
 use Rattle.term.specs.declared.heads.Class.{Class}
-use Rattle.term.specs.declared.heads.Class.the-variants.{Index, Basis, Scalar, Ket, Bra, Operator, Array}
+use Rattle.term.specs.declared.heads.Class.the-variants.{Index, Basis, Scalar, Ket, Bra, Operator, Array, Term}
 use Rattle.term.specs.Heads.{adjoint, tensor, word, childOf}
 use Rattle.term.specs.Trees.{Tree, node, count, words}
 use Rattle.typebook.specs.Code.Shapes.{Shape, shape, shapeOf, numberOf, fitting, given}
 use Rattle.typebook.specs.Code.Lines.{concluded, rules, ruleAt, alikeTo, allAlike, met, secondFits, fitted, classBy, pairOf, sideOf, shortBoth, shaped, byLine, childrenOf}
-use Rattle.types.specs.Rules.{IsType}
-use Rattle.types.specs.Sorts.{Sort, index, basis, scalar, ket, bra, operator, Context, _⊠_}
-use Rattle.types.specs.TypeOf.{Conclusion, fails, gives, same, short, toIndex, toBasis, toScalar, toKet, toBra, toOperator, arrayOf, agree, andThen, agreeAll, scalarsOf, sumOf, conclude}
+use Rattle.types.specs.Sorts.{Sort, index, basis, scalar, ket, bra, operator, IsType, Context, _⊠_}
+use Rattle.types.specs.TypeOf.{Conclusion, fails, gives, same, short, toIndex, toBasis, toScalar, toKet, toBra, toOperator, arrayOf, bodyOf, agree, andThen, agreeAll, scalarsOf, sumOf, conclude}
 
 -- ---- each test on a sort is a test of its shape's class
 module _ {A : Type 0} where
@@ -114,6 +113,15 @@ on-array scalar = refl
 on-array (ket σ) = refl
 on-array (bra σ) = refl
 on-array (operator σ τ) = refl
+
+pub on-body : (s : Sort) → concluded (bodyOf s) ≡ given (fitting (shapeOf s .class) Term) (some (shapeOf s))
+unfolding bodyOf
+on-body (index σ) = refl
+on-body (basis σ) = refl
+on-body scalar = refl
+on-body (ket σ) = refl
+on-body (bra σ) = refl
+on-body (operator σ τ) = refl
 
 -- a head's rule with the tests of the classes one after the other
 abbrev pub ruled : ℕ → ℕ → Shape → Shape → Bool → Option Shape

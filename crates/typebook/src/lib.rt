@@ -41,6 +41,8 @@ pub fn rule_of(head: usize) -> u16
         23 => 0x2014, // 23   MULB
         24 => 0x2014, // 24   OUTER
         25 => 0x2014, // 25   MULO
+        26 => 0x0000, // 26:a variable
+        27 => 0x0234, // 27   sum over a basis
         _ => 0,
     }
 }
@@ -69,7 +71,7 @@ pub fn number(class: Class) -> u8
     }
 }
 
-// Whether a child's class is the one that the table of heads wants: the same, or any array where an array is wanted.
+// Whether a child's class is the one that the table of heads wants: the same, or any array where an array is wanted, and any type where a term is.
 fn fits(class: Class, wanted: Class) -> bool
     ensures { λ r. ⌜ r ≡ fitting class wanted ⌝ }
 {
@@ -77,6 +79,9 @@ fn fits(class: Class, wanted: Class) -> bool
     let w = number(wanted);
     if w == 7 {
         return 4 <= n && n <= 6;
+    }
+    if w == 8 {
+        return 3 <= n && n <= 6;
     }
     n == w
 }

@@ -1,8 +1,10 @@
 -- The laws of sorts that the crates above cite.
+pub mod Indices
 pub mod Complete
 pub mod Proper
 pub mod Sound
 pub mod Replace
 pub mod Place
+pub mod Strays
 pub mod Walk
 pub mod Theorems

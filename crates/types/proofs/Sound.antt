@@ -1,28 +1,35 @@
 -- What the function finds, the rules derive.
-use mathlib.Core.Path.{_≡_, refl, ap}
+use mathlib.Core.Path.{_≡_, refl, sym, _∙_, ap}
 use mathlib.Core.Bool.{Bool, true, false, cond}
 use mathlib.Core.Option.{Option, some, none as nothing}
 use mathlib.Core.List.{List, [], _∷_}
-use Prim.Native.Nat.{ℕ, _+_}
+use Prim.Native.Nat.{ℕ, _+_, _<_}
 use native.Mathlib.Omega.{arith}
 use borrow.Author.Tests.{ltb-true, leb-true}
-use lib.ListN.{length}
+use lib.Dec.{ltb}
+use lib.ListN.{length, getElem?}
 use Rattle.words.proofs.Runs.{same-words-eq}
-use Rattle.term.specs.Heads.{Label, type-name, basis-name, variable, index-product, pair, scalar-zero, scalar-one, scalar-sum, scalar-product, conjugate, delta, dot, zero-ket, zero-bra, zero-operator, identity, basis-ket, basis-bra, adjoint, scale, add, tensor, mulk, mulb, outer, mulo}
+use Rattle.term.specs.Heads.{Label, type-name, basis-name, variable, index-product, pair, scalar-zero, scalar-one, scalar-sum, scalar-product, conjugate, delta, dot, zero-ket, zero-bra, zero-operator, identity, basis-ket, basis-bra, adjoint, scale, add, tensor, mulk, mulb, outer, mulo, bound-basis, big-sum}
 use Rattle.term.specs.Trees.{Tree, Forest, node, none, _▹_, words}
-use Rattle.types.specs.Sorts.{Sort, index, basis, scalar, ket, bra, operator, Context, _⊠_, Short}
-use Rattle.types.specs.Rules.{_⊢_∶_, _⊢*_∶_, type-var, basis-var, term-var, sca-0, sca-1, sca-delta, sca-add, sca-mul, sca-conj, sca-dot, base-prod, pair-base, ket-0, ket-base, ket-adj, ket-scr, ket-add, ket-mulk, ket-tsr, bra-0, bra-base, bra-adj, bra-scr, bra-add, bra-mulb, bra-tsr, opt-0, opt-1, opt-adj, opt-scr, opt-add, opt-outer, opt-mulo, opt-tsr, every-none, every-more, Index, Proper, WellFormed}
-use Rattle.types.specs.TypeOf.{Conclusion, fails, gives, same, short, nil, one, two, toIndex, toBasis, toScalar, toKet, toBra, toOperator, adjointOf, arrayOf, tensorOf, agree, andThen, agreeAll, scalarsOf, sumOf, listed, conclude, Typed, typed, untyped, Children, sorts, failed, decide, close, join, typeOf, typesOf}
+use Rattle.term.specs.Terms.{maxBodies}
+use Rattle.types.specs.Sorts.{Sort, index, basis, scalar, ket, bra, operator, IsType, Context, bind, _⊠_, Short}
+use Rattle.types.specs.Rules.{_⊢_∶_, _⊢*_∶_, type-var, basis-var, term-var, sca-0, sca-1, sca-delta, sca-add, sca-mul, sca-conj, sca-dot, base-prod, pair-base, ket-0, ket-base, ket-adj, ket-scr, ket-add, ket-mulk, ket-tsr, bra-0, bra-base, bra-adj, bra-scr, bra-add, bra-mulb, bra-tsr, opt-0, opt-1, opt-adj, opt-scr, opt-add, opt-outer, opt-mulo, opt-tsr, bound-var, sum-over, every-none, every-more, Index, Proper, WellFormed}
+use Rattle.types.specs.Inside.{behindFirst, later}
+use Rattle.types.specs.TypeOf.{Conclusion, fails, gives, same, short, nil, one, two, toIndex, toBasis, toScalar, toKet, toBra, toOperator, adjointOf, arrayOf, tensorOf, agree, andThen, agreeAll, scalarsOf, sumOf, listed, boundOf, bodyOf, conclude, Typed, typed, untyped, Children, sorts, failed, decide, close, join, typeOf, typesOf}
+use Rattle.types.proofs.Indices.{index-is, later-well, index-tested}
 use Rattle.types.proofs.Complete.{complete}
 use Rattle.types.proofs.Proper.{proper, same-index}
 
 absurd-fails : {A : Type 0} {S : Sort} → fails ≡ gives S → A
 absurd-fails e = absurd (let z : _≡_ {A = ℕ} 0 1 = cc in omega arith)
 
--- ---- children with their sorts, as derived
-pub data Each (Γ : Context) : Forest → List Sort → Type 0 where
-  each-none : Each Γ none []
-  each-more : {t : Tree} {f : Forest} {S : Sort} {ss : List Sort} → Γ ⊢ t ∶ S → Each Γ f ss → Each Γ (t ▹ f) (S ∷ ss)
+-- ---- children with their sorts, as derived: the first in one context, the others in another
+pub data Row : Forest → List Sort → Context → Context → Type 0 where
+  each-none : {Γ Δ : Context} → Row none [] Γ Δ
+  each-more : {t : Tree} {f : Forest} {S : Sort} {ss : List Sort} {Γ Δ : Context} → Γ ⊢ t ∶ S → Row f ss Δ Δ → Row (t ▹ f) (S ∷ ss) Γ Δ
+
+abbrev pub Each : Context → Forest → List Sort → Type 0
+Each Γ f ss = Row f ss Γ Γ
 
 -- ---- what a conclusion needed: one record for each test, with the rest of the conclusion
 record Of (Γ : Context) (t : Tree) (F : Tree → Sort) (f : Tree → Conclusion) (S : Sort) : Type 0 where
@@ -345,96 +352,141 @@ module _ {Γ : Context} (W : WellFormed Γ) {S : Sort} where
       let r = same-of W _ (proper W (p .is) .1) (proper W (q .is) .0) (q .rest) in
       at-sort (opt-mulo (p .is) (operator-at (r .0) refl (q .is))) (r .1)
 
-  -- ---- all of them
-  pub derive : {cs : Forest} {ss : List Sort} (l : Label) → Each Γ cs ss → conclude Γ l ss ≡ gives S → Γ ⊢ node l cs ∶ S
+  -- a bound basis has the index of its sum
+  bound-rule : {cs : Forest} {ss : List Sort} (a : ℕ) → Each Γ cs ss → conclude Γ (bound-basis a) ss ≡ gives S → Γ ⊢ node (bound-basis a) cs ∶ S
   unfolding conclude
-  derive (type-name a) x e = type-rule a x e
-  derive (basis-name a) x e = basis-rule a x e
-  derive (variable a) x e = variable-rule a x e
-  derive index-product x e = product-rule (both-of _ x e)
-  derive pair x e = pair-rule (both-of _ x e)
-  derive scalar-zero x e = leaf-rule scalar-zero sca-0 x e
-  derive scalar-one x e = leaf-rule scalar-one sca-1 x e
-  derive scalar-sum x e = scalars-rule scalar-sum (λ t f. sca-add) x e
-  derive scalar-product x e = scalars-rule scalar-product (λ t f. sca-mul) x e
-  derive conjugate x e = conjugate-rule (only-of _ x e)
-  derive delta x e = delta-rule (both-of _ x e)
-  derive dot x e = dot-rule (both-of _ x e)
-  derive zero-ket x e = index-rule zero-ket ket (λ s σ. ket-0) (only-of _ x e)
-  derive zero-bra x e = index-rule zero-bra bra (λ s σ. bra-0) (only-of _ x e)
-  derive zero-operator x e = zero-operator-rule (both-of _ x e)
-  derive identity x e = index-rule identity (λ σ. operator σ σ) (λ s σ. opt-1) (only-of _ x e)
-  derive basis-ket x e = basis-head-rule basis-ket ket (λ s σ. ket-base) (only-of _ x e)
-  derive basis-bra x e = basis-head-rule basis-bra bra (λ s σ. bra-base) (only-of _ x e)
-  derive adjoint x e = adjoint-rule (only-of _ x e)
-  derive scale x e = scale-rule (both-of _ x e)
-  derive add x e = sum-rule x e
-  derive tensor x e = tensor-rule (both-of _ x e)
-  derive mulk x e = mulk-rule (both-of _ x e)
-  derive mulb x e = mulb-rule (both-of _ x e)
-  derive outer x e = outer-rule (both-of _ x e)
-  derive mulo x e = mulo-rule (both-of _ x e)
+  bound-rule a x e =
+      let r = nil-of _ x e in
+      let b = cond-of _ _ (r .1) in
+      rw (r .0) (go (ltb-true _ _ (b .0)) (getElem? (Γ .bound) a) refl (b .1))
+    where
+      go : a < maxBodies → (o : Option Tree) → getElem? (Γ .bound) a ≡ o → boundOf (Γ .types) o ≡ gives S → Γ ⊢ node (bound-basis a) none ∶ S
+      go b nothing h e = absurd-fails e
+      go b (some σ) h e = let q = cond-of _ _ e in at-sort (bound-var b h (index-tested Γ σ (q .0))) (q .1)
+
+  body-of : (r : Sort) → bodyOf r ≡ gives S → IsType r × (r ≡ S)
+  unfolding bodyOf
+  body-of (index σ) e = absurd-fails e
+  body-of (basis σ) e = absurd-fails e
+  body-of scalar e = (tt, cc)
+  body-of (ket σ) e = (tt, cc)
+  body-of (bra σ) e = (tt, cc)
+  body-of (operator σ τ) e = (tt, cc)
+
+  -- A sum, from other children of the same sorts: its index is the same tree, so that both bodies stand in one context
+  over-by : {s t b : Tree} (q r : Sort) → Γ ⊢ s ∶ q → Γ ⊢ t ∶ q → bind s Γ ⊢ b ∶ r → (toIndex q λ σ. cond (ltb (length (Γ .bound)) maxBodies) (bodyOf r) fails) ≡ gives S
+      → Γ ⊢ node big-sum (t ▹ b ▹ none) ∶ S
+  over-by {s} {t} (index σ) r a a′ b e =
+      let p = cond-of _ (bodyOf r) e in
+      let y = body-of r (p .1) in
+      let z : s ≡ t = index-is W a ∙ sym (index-is W a′) in
+      at-sort (sum-over a′ (rw (← z) b) (y .0) (ltb-true _ _ (p .0))) (ap gives (y .1))
+  over-by (basis σ) r a a′ b e = absurd-fails e
+  over-by scalar r a a′ b e = absurd-fails e
+  over-by (ket σ) r a a′ b e = absurd-fails e
+  over-by (bra σ) r a a′ b e = absurd-fails e
+  over-by (operator σ τ) r a a′ b e = absurd-fails e
+
+  over-rule : {cs ds : Forest} {ss : List Sort} → Row cs ss Γ (behindFirst Γ cs) → Row ds ss Γ (behindFirst Γ cs) → conclude Γ big-sum ss ≡ gives S → Γ ⊢ node big-sum ds ∶ S
+  unfolding conclude behindFirst
+  over-rule o each-none e = absurd-fails e
+  over-rule o (each-more a each-none) e = absurd-fails e
+  over-rule (each-more {S = q} a o) (each-more a′ (each-more {S = r} b each-none)) e = over-by q r a a′ b e
+  over-rule o (each-more a (each-more b (each-more c x))) e = absurd-fails e
+
+  -- ---- all of them, from other children of the same sorts
+  pub derive : {cs ds : Forest} {ss : List Sort} (l : Label) → Row cs ss Γ (later Γ l cs) → Row ds ss Γ (later Γ l cs) → conclude Γ l ss ≡ gives S → Γ ⊢ node l ds ∶ S
+  unfolding conclude later
+  derive (type-name a) o x e = type-rule a x e
+  derive (basis-name a) o x e = basis-rule a x e
+  derive (variable a) o x e = variable-rule a x e
+  derive index-product o x e = product-rule (both-of _ x e)
+  derive pair o x e = pair-rule (both-of _ x e)
+  derive scalar-zero o x e = leaf-rule scalar-zero sca-0 x e
+  derive scalar-one o x e = leaf-rule scalar-one sca-1 x e
+  derive scalar-sum o x e = scalars-rule scalar-sum (λ t f. sca-add) x e
+  derive scalar-product o x e = scalars-rule scalar-product (λ t f. sca-mul) x e
+  derive conjugate o x e = conjugate-rule (only-of _ x e)
+  derive delta o x e = delta-rule (both-of _ x e)
+  derive dot o x e = dot-rule (both-of _ x e)
+  derive zero-ket o x e = index-rule zero-ket ket (λ s σ. ket-0) (only-of _ x e)
+  derive zero-bra o x e = index-rule zero-bra bra (λ s σ. bra-0) (only-of _ x e)
+  derive zero-operator o x e = zero-operator-rule (both-of _ x e)
+  derive identity o x e = index-rule identity (λ σ. operator σ σ) (λ s σ. opt-1) (only-of _ x e)
+  derive basis-ket o x e = basis-head-rule basis-ket ket (λ s σ. ket-base) (only-of _ x e)
+  derive basis-bra o x e = basis-head-rule basis-bra bra (λ s σ. bra-base) (only-of _ x e)
+  derive adjoint o x e = adjoint-rule (only-of _ x e)
+  derive scale o x e = scale-rule (both-of _ x e)
+  derive add o x e = sum-rule x e
+  derive tensor o x e = tensor-rule (both-of _ x e)
+  derive mulk o x e = mulk-rule (both-of _ x e)
+  derive mulb o x e = mulb-rule (both-of _ x e)
+  derive outer o x e = outer-rule (both-of _ x e)
+  derive mulo o x e = mulo-rule (both-of _ x e)
+  derive (bound-basis a) o x e = bound-rule a x e
+  derive big-sum o x e = over-rule o x e
 
 -- ---- the function
 data Answered (Γ : Context) (at : ℕ) (t : Tree) : Typed → Type 0 where
   has-sort : {S : Sort} → Γ ⊢ t ∶ S → Answered Γ at t (typed S)
   has-none : {k : ℕ} → Answered Γ at t (untyped k)
 
-data Answered* (Γ : Context) (f : Forest) : Children → Type 0 where
-  have-sorts : {ss : List Sort} → Each Γ f ss → Answered* Γ f (sorts ss)
-  have-none : {k : ℕ} → Answered* Γ f (failed k)
+data Answered* (Γ Δ : Context) (f : Forest) : Children → Type 0 where
+  have-sorts : {ss : List Sort} → Row f ss Γ Δ → Answered* Γ Δ f (sorts ss)
+  have-none : {k : ℕ} → Answered* Γ Δ f (failed k)
 
 module _ {Γ : Context} (W : WellFormed Γ) where
-  decided : {cs : Forest} {ss : List Sort} (at : ℕ) (l : Label) → Each Γ cs ss → (c : Conclusion) → conclude Γ l ss ≡ c → Answered Γ at (node l cs) (decide at c)
+  decided : {cs : Forest} {ss : List Sort} (at : ℕ) (l : Label) → Row cs ss Γ (later Γ l cs) → (c : Conclusion) → conclude Γ l ss ≡ c → Answered Γ at (node l cs) (decide at c)
   unfolding decide
   decided at l x fails e = has-none
-  decided at l x (gives S) e = has-sort (derive W l x e)
+  decided at l x (gives S) e = has-sort (derive W l x x e)
 
-  closed : {cs : Forest} {r : Children} (at : ℕ) (l : Label) → Answered* Γ cs r → Answered Γ at (node l cs) (close Γ at l r)
+  closed : {cs : Forest} {r : Children} (at : ℕ) (l : Label) → Answered* Γ (later Γ l cs) cs r → Answered Γ at (node l cs) (close Γ at l r)
   unfolding close
   closed at l (have-sorts {ss} x) = decided at l x (conclude Γ l ss) refl
   closed at l have-none = has-none
 
-  joined : {t : Tree} {f : Forest} {at : ℕ} {a : Typed} {r : Children} → Answered Γ at t a → Answered* Γ f r → Answered* Γ (t ▹ f) (join a r)
-  unfolding join
-  joined (has-sort a) (have-sorts x) = have-sorts (each-more a x)
-  joined (has-sort a) have-none = have-none
-  joined has-none r = have-none
+joined : {Γ Δ : Context} {t : Tree} {f : Forest} {at : ℕ} {a : Typed} {r : Children} → Answered Γ at t a → Answered* Δ Δ f r → Answered* Γ Δ (t ▹ f) (join a r)
+unfolding join
+joined (has-sort a) (have-sorts x) = have-sorts (each-more a x)
+joined (has-sort a) have-none = have-none
+joined has-none r = have-none
 
-  mutual
-    unfolding typeOf
+mutual
+  unfolding typeOf
 
-    answered : (at : ℕ) (t : Tree) → Answered Γ at t (typeOf Γ at t)
-    answered at (node l cs) = closed at l (answered* (at + 1) cs)
+  answered : {Γ : Context} → WellFormed Γ → (at : ℕ) (t : Tree) → Answered Γ at t (typeOf Γ at t)
+  answered W at (node l cs) = closed W at l (answered* W (later-well W l cs) (at + 1) cs)
 
-    answered* : (at : ℕ) (f : Forest) → Answered* Γ f (typesOf Γ at f)
-    answered* at none = have-sorts each-none
-    answered* at (t ▹ f) = joined (answered at t) (answered* (at + length (words t)) f)
+  answered* : {Γ Δ : Context} → WellFormed Γ → WellFormed Δ → (at : ℕ) (f : Forest) → Answered* Γ Δ f (typesOf Γ Δ at f)
+  answered* W X at none = have-sorts each-none
+  answered* W X at (t ▹ f) = joined (answered W at t) (answered* X X (at + length (words t)) f)
 
-  sound-by : {at : ℕ} {t : Tree} {a : Typed} {S : Sort} → Answered Γ at t a → a ≡ typed S → Γ ⊢ t ∶ S
-  sound-by {S} (has-sort {S = R} d) e = let z : R ≡ S = cc in at-sort d (ap gives z)
-  sound-by has-none e = absurd (let z : _≡_ {A = ℕ} 0 1 = cc in omega arith)
+sound-by : {Γ : Context} {at : ℕ} {t : Tree} {a : Typed} {S : Sort} → Answered Γ at t a → a ≡ typed S → Γ ⊢ t ∶ S
+sound-by {S} (has-sort {S = R} d) e = let z : R ≡ S = cc in at-sort d (ap gives z)
+sound-by has-none e = absurd (let z : _≡_ {A = ℕ} 0 1 = cc in omega arith)
 
+module _ {Γ : Context} (W : WellFormed Γ) where
   pub sound : {S : Sort} (at : ℕ) (t : Tree) → typeOf Γ at t ≡ typed S → Γ ⊢ t ∶ S
-  sound at t e = sound-by (answered at t) e
+  sound at t e = sound-by (answered W at t) e
 
   -- ---- a typed part's children have sorts, and any children of the same sorts will do
   pub record Node (l : Label) (cs : Forest) (S : Sort) : Type 0 where
     pub list : List Sort
-    pub each : Each Γ cs list
+    pub each : Row cs list Γ (later Γ l cs)
     pub concludes : conclude Γ l list ≡ gives S
-    pub again : (ds : Forest) → Each Γ ds list → Γ ⊢ node l ds ∶ S
+    pub again : (ds : Forest) → Row ds list Γ (later Γ l cs) → Γ ⊢ node l ds ∶ S
 
   decide-typed : {S : Sort} (at : ℕ) (c : Conclusion) → decide at c ≡ typed S → c ≡ gives S
   unfolding decide
   decide-typed at fails e = absurd (let z : _≡_ {A = ℕ} 0 1 = cc in omega arith)
   decide-typed at (gives R) e = cc
 
-  node-by : {l : Label} {cs : Forest} {S : Sort} {r : Children} (at : ℕ) → Answered* Γ cs r → close Γ at l r ≡ typed S → Node l cs S
+  node-by : {l : Label} {cs : Forest} {S : Sort} {r : Children} (at : ℕ) → Answered* Γ (later Γ l cs) cs r → close Γ at l r ≡ typed S → Node l cs S
   unfolding close
-  node-by at (have-sorts {ss} x) e = let c = decide-typed at _ e in record { list = ss; each = x; concludes = c; again = λ ds y. derive W _ y c }
+  node-by {l} at (have-sorts {ss} x) e = let c = decide-typed at _ e in record { list = ss; each = x; concludes = c; again = λ ds y. derive W l x y c }
   node-by at have-none e = absurd (let z : _≡_ {A = ℕ} 0 1 = cc in omega arith)
 
   pub node-of : {l : Label} {cs : Forest} {S : Sort} → Γ ⊢ node l cs ∶ S → Node l cs S
   unfolding typeOf
-  node-of {cs} d = node-by 0 (answered* 1 cs) (complete Γ d 0)
+  node-of {l} {cs} d = node-by 0 (answered* W (later-well W l cs) 1 cs) (complete W d 0)

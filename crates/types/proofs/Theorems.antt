@@ -21,16 +21,16 @@ pub sound : Sound
 sound Γ W at t T e = S.sound W at t e
 
 pub complete : Complete
-complete Γ at t T d = C.complete Γ d at
+complete Γ W at t T d = C.complete W d at
 
 pub unique : Unique
-unique Γ t T U d e = C.unique Γ d e
+unique Γ W t T U d e = C.unique W d e
 
 pub indices : Indices
 indices Γ W t T d = P.proper W d
 
 -- of two untyped parts one is the earlier, unless they begin at the same offset
-one-first : {Γ : Context} {sub : ℕ → Subtree} {j k : ℕ} → First Γ sub j → First Γ sub k → j ≡ k
+one-first : {Γs : ℕ → Context} {sub : ℕ → Subtree} {j k : ℕ} → First Γs sub j → First Γs sub k → j ≡ k
 one-first {j = j} {k = k} x y =
     let e = j + length (words (x .there)) in
     let f = k + length (words (y .there)) in

@@ -7,6 +7,7 @@ use lib.ListN.{length, length-append}
 use Rattle.term.specs.Heads.{Label}
 use Rattle.term.specs.Trees.{Tree, Forest, node, none, _▹_, count, _⧺_, words, words*}
 use Rattle.types.specs.Sorts.{Sort, Context}
+use Rattle.types.specs.Inside.{later}
 use Rattle.types.specs.TypeOf.{Conclusion, fails, gives, conclude, Typed, typed, untyped, Children, sorts, failed, decide, close, join, typeOf, typesOf}
 
 -- ---- an offset moves an answer along
@@ -40,13 +41,13 @@ mutual
   shift : (Γ : Context) (n at : ℕ) (t : Tree) → typeOf Γ (n + at) t ≡ shifted n (typeOf Γ at t)
   shift Γ n at (node l cs) =
       let z : n + at + 1 ≡ n + (at + 1) = omega arith in
-      rw (z, shift* Γ n (at + 1) cs) (shift-close Γ n at l (typesOf Γ (at + 1) cs))
+      rw (z, shift* Γ (later Γ l cs) n (at + 1) cs) (shift-close Γ n at l (typesOf Γ (later Γ l cs) (at + 1) cs))
 
-  shift* : (Γ : Context) (n at : ℕ) (f : Forest) → typesOf Γ (n + at) f ≡ shifted* n (typesOf Γ at f)
-  shift* Γ n at none = refl
-  shift* Γ n at (t ▹ f) =
+  shift* : (Γ Δ : Context) (n at : ℕ) (f : Forest) → typesOf Γ Δ (n + at) f ≡ shifted* n (typesOf Γ Δ at f)
+  shift* Γ Δ n at none = refl
+  shift* Γ Δ n at (t ▹ f) =
       let z : n + at + length (words t) ≡ n + (at + length (words t)) = omega arith in
-      rw (shift Γ n at t, z, shift* Γ n (at + length (words t)) f) (shift-join n (typeOf Γ at t) (typesOf Γ (at + length (words t)) f))
+      rw (shift Γ n at t, z, shift* Δ Δ n (at + length (words t)) f) (shift-join n (typeOf Γ at t) (typesOf Δ Δ (at + length (words t)) f))
 
 pub typed-at : (Γ : Context) (at : ℕ) (t : Tree) (S : Sort) → typeOf Γ 0 t ≡ typed S → typeOf Γ at t ≡ typed S
 unfolding shifted
@@ -74,22 +75,31 @@ follow-join (typed s) (failed k) q = refl
 follow-join (typed s) (sorts ss) (failed k) = refl
 follow-join (typed s) (sorts ss) (sorts ts) = refl
 
-types-⧺ : (Γ : Context) (cs f : Forest) (at : ℕ) → typesOf Γ at (cs ⧺ f) ≡ follow (typesOf Γ at cs) (typesOf Γ (at + length (words* cs)) f)
-unfolding typeOf _⧺_ words
-types-⧺ Γ none f at = let z : at + 0 ≡ at = omega arith in rw z (follow-none (typesOf Γ at f))
-types-⧺ Γ (t ▹ cs) f at =
+-- the context of the child behind those passed
+unfoldable pub nextIn : Context → Context → Forest → Context
+nextIn Γ Δ none = Γ
+nextIn Γ Δ (t ▹ f) = Δ
+
+next-same : (Δ : Context) (cs : Forest) → nextIn Δ Δ cs ≡ Δ
+unfolding nextIn
+next-same Δ none = refl
+next-same Δ (t ▹ f) = refl
+
+types-⧺ : (Γ Δ : Context) (cs f : Forest) (at : ℕ) → typesOf Γ Δ at (cs ⧺ f) ≡ follow (typesOf Γ Δ at cs) (typesOf (nextIn Γ Δ cs) Δ (at + length (words* cs)) f)
+unfolding typeOf _⧺_ words nextIn
+types-⧺ Γ Δ none f at = let z : at + 0 ≡ at = omega arith in rw z (follow-none (typesOf Γ Δ at f))
+types-⧺ Γ Δ (t ▹ cs) f at =
     let z : at + length (words t ++ words* cs) ≡ at + length (words t) + length (words* cs) = omega (arith, length-append (words t) (words* cs)) in
-    rw (z, types-⧺ Γ cs f (at + length (words t))) (follow-join (typeOf Γ at t) _ _)
+    rw (z, types-⧺ Δ Δ cs f (at + length (words t)), next-same Δ cs) (follow-join (typeOf Γ at t) _ _)
 
-pub types-more : (Γ : Context) (cs : Forest) (at : ℕ) (t : Tree) (ss : List Sort) (S : Sort) → typesOf Γ at cs ≡ sorts ss
-    → typeOf Γ (at + length (words* cs)) t ≡ typed S → typesOf Γ at (cs ⧺ (t ▹ none)) ≡ sorts (ss ++ (S ∷ []))
-unfolding typeOf follow
-types-more Γ cs at t ss S e f = types-⧺ Γ cs (t ▹ none) at ∙ rw (e, f)
+module _ (Γ Δ : Context) (cs : Forest) (at : ℕ) (t : Tree) {ss : List Sort} (passed : typesOf Γ Δ at cs ≡ sorts ss) where
+  pub types-more : (S : Sort) → typeOf (nextIn Γ Δ cs) (at + length (words* cs)) t ≡ typed S → typesOf Γ Δ at (cs ⧺ (t ▹ none)) ≡ sorts (ss ++ (S ∷ []))
+  unfolding typeOf follow
+  types-more S f = types-⧺ Γ Δ cs (t ▹ none) at ∙ rw (passed, f)
 
-pub types-fail : (Γ : Context) (cs : Forest) (at : ℕ) (t : Tree) (f : Forest) (ss : List Sort) (k : ℕ) → typesOf Γ at cs ≡ sorts ss
-    → typeOf Γ (at + length (words* cs)) t ≡ untyped k → typesOf Γ at (cs ⧺ (t ▹ f)) ≡ failed k
-unfolding typeOf follow
-types-fail Γ cs at t f ss k e g = types-⧺ Γ cs (t ▹ f) at ∙ rw (e, g)
+  pub types-fail : (f : Forest) (k : ℕ) → typeOf (nextIn Γ Δ cs) (at + length (words* cs)) t ≡ untyped k → typesOf Γ Δ at (cs ⧺ (t ▹ f)) ≡ failed k
+  unfolding typeOf follow
+  types-fail f k g = types-⧺ Γ Δ cs (t ▹ f) at ∙ rw (passed, g)
 
 -- where fewer have been passed than there are, the next one stands first in the rest
 pub next-child : (cs as′ f g : Forest) → count cs < count as′ → as′ ⧺ f ≡ cs ⧺ g → (t : Tree) × (rest : Forest) × (as′ ≡ cs ⧺ (t ▹ rest)) × (g ≡ t ▹ (rest ⧺ f))

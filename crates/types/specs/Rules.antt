@@ -5,10 +5,10 @@ use mathlib.Core.Path.{_≡_}
 use mathlib.Core.Option.{some}
 use Prim.Native.Nat.{ℕ, _≤_, _<_}
 use lib.ListN.{length, getElem?}
-use Rattle.term.specs.Heads.{type-name, basis-name, variable, index-product, pair, scalar-zero, scalar-one, scalar-sum, scalar-product, conjugate, delta, dot, zero-ket, zero-bra, zero-operator, identity, basis-ket, basis-bra, adjoint, scale, add, tensor, mulk, mulb, outer, mulo}
+use Rattle.term.specs.Heads.{type-name, basis-name, variable, index-product, pair, scalar-zero, scalar-one, scalar-sum, scalar-product, conjugate, delta, dot, zero-ket, zero-bra, zero-operator, identity, basis-ket, basis-bra, adjoint, scale, add, tensor, mulk, mulb, outer, mulo, bound-basis, big-sum}
 use Rattle.term.specs.Trees.{Tree, Forest, node, none, _▹_}
-use Rattle.term.specs.Terms.{maxNames, IsTerm}
-use Rattle.types.specs.Sorts.{Sort, index, basis, scalar, ket, bra, operator, Context, countsOf, _⊠_, Short}
+use Rattle.term.specs.Terms.{maxNames, maxBodies, IsTerm}
+use Rattle.types.specs.Sorts.{Sort, index, basis, scalar, ket, bra, operator, IsType, Context, bind, countsOf, _⊠_, Short}
 
 infix 3 _∶_⊣_
 infix 3 _∶*_⊣_
@@ -57,6 +57,9 @@ mutual
     opt-mulo : {O P σ τ ρ : Tree} {Γ : Context} → O ∶ operator σ τ ⊣ Γ → P ∶ operator τ ρ ⊣ Γ → node mulo (O ▹ P ▹ none) ∶ operator σ ρ ⊣ Γ
     opt-tsr : {O P σ τ υ φ : Tree} {Γ : Context} → O ∶ operator σ τ ⊣ Γ → P ∶ operator υ φ ⊣ Γ → Short (σ ⊠ υ) → Short (τ ⊠ φ)
         → node tensor (O ▹ P ▹ none) ∶ operator (σ ⊠ υ) (τ ⊠ φ) ⊣ Γ
+    -- 02, CR 1: "has the body's type"; "Parts inside a body are typed with the bases bound around them; a 28 whose 27 lacks an index is untyped"; "at most 8 bodies nested"
+    bound-var : {a : ℕ} {σ : Tree} {Γ : Context} → a < maxBodies → getElem? (Γ .bound) a ≡ some σ → σ ∶ index σ ⊣ Γ → node (bound-basis a) none ∶ basis σ ⊣ Γ
+    sum-over : {s b σ : Tree} {S : Sort} {Γ : Context} → s ∶ index σ ⊣ Γ → b ∶ S ⊣ bind s Γ → IsType S → length (Γ .bound) < maxBodies → node big-sum (s ▹ b ▹ none) ∶ S ⊣ Γ
 
   -- every tree of a forest has one sort: "for all i"
   pub data _∶*_⊣_ : Forest → Sort → Context → Type 0 where
@@ -83,15 +86,6 @@ Proper Γ scalar = Unit {0}
 Proper Γ (ket σ) = Index Γ σ
 Proper Γ (bra σ) = Index Γ σ
 Proper Γ (operator σ τ) = Index Γ σ × Index Γ τ
-
--- a type: the sort of a term, and not of an index or a basis
-abbrev pub IsType : Sort → Type 0
-IsType (index σ) = ⊥
-IsType (basis σ) = ⊥
-IsType scalar = Unit {0}
-IsType (ket σ) = Unit {0}
-IsType (bra σ) = Unit {0}
-IsType (operator σ τ) = Unit {0}
 
 -- 004's WF: what is declared is declared properly, and 01: "Names are 0 to 31"
 pub record WellFormed (Γ : Context) : Type 0 where

@@ -1,5 +1,5 @@
 -- Sorts, and the context that declarations make.
-use mathlib.Core.List.{List}
+use mathlib.Core.List.{List, _∷_}
 use Prim.Native.Nat.{ℕ, _≤_}
 use lib.ListN.{length}
 use Rattle.term.specs.declared.terms.Names.{Names}
@@ -14,11 +14,29 @@ pub data Sort : Type 0 where
   ket bra : Tree → Sort
   operator : Tree → Tree → Sort
 
--- What is declared: how many type names, the index of each basis name, the type of each variable
+-- a type: the sort of a term, and not of an index or a basis
+abbrev pub IsType : Sort → Type 0
+IsType (index σ) = ⊥
+IsType (basis σ) = ⊥
+IsType scalar = Unit {0}
+IsType (ket σ) = Unit {0}
+IsType (bra σ) = Unit {0}
+IsType (operator σ τ) = Unit {0}
+
+-- What is declared: how many type names, the index of each basis name, the type of each variable. And where a part stands: what the sums over a basis around it have for an index, whatever it
+-- is, the innermost first
 pub record Context : Type 0 where
   pub types : ℕ
   pub bases : List Tree
   pub variables : List Sort
+  pub bound : List Tree
+
+-- the same with these around, and in the body of a sum over s
+abbrev pub inBodies : List Tree → Context → Context
+inBodies bs Γ = record { types = Γ .types; bases = Γ .bases; variables = Γ .variables; bound = bs }
+
+abbrev pub bind : Tree → Context → Context
+bind s Γ = inBodies (s ∷ Γ .bound) Γ
 
 -- how many names of each kind are declared
 abbrev pub countsOf : Context → Names

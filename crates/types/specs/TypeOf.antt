@@ -1,16 +1,17 @@
 -- The type of a term with the place of the first untyped part, as a function for the code to equal: the relations to believe are `_⊢_∶_` of `Rules` and `FirstUntyped` of `First`.
 -- `Sound`, `Complete` and `Places` of `Statements` say that the function answers as they say.
-use mathlib.Core.Bool.{cond}
+use mathlib.Core.Bool.{Bool, true, cond, _&&_}
 use mathlib.Core.Option.{Option, some, none as nothing}
 use mathlib.Core.List.{List, [], _∷_}
 use Prim.Native.Nat.{ℕ, _+_}
-use lib.Dec.{leb, ltb}
+use lib.Dec.{eqb, leb, ltb}
 use lib.ListN.{length, getElem?}
 use Rattle.words.specs.Words.{sameWords}
-use Rattle.term.specs.Heads.{Label, type-name, basis-name, variable, index-product, pair, scalar-zero, scalar-one, scalar-sum, scalar-product, conjugate, delta, dot, zero-ket, zero-bra, zero-operator, identity, basis-ket, basis-bra, adjoint, scale, add, tensor, mulk, mulb, outer, mulo}
-use Rattle.term.specs.Trees.{Tree, Forest, node, none, _▹_, words}
-use Rattle.term.specs.Terms.{maxIndex}
+use Rattle.term.specs.Heads.{Label, type-name, basis-name, variable, index-product, pair, scalar-zero, scalar-one, scalar-sum, scalar-product, conjugate, delta, dot, zero-ket, zero-bra, zero-operator, identity, basis-ket, basis-bra, adjoint, scale, add, tensor, mulk, mulb, outer, mulo, bound-basis, big-sum, headOf}
+use Rattle.term.specs.Trees.{Tree, Forest, node, none, _▹_, count, words}
+use Rattle.term.specs.Terms.{maxIndex, maxBodies}
 use Rattle.types.specs.Sorts.{Sort, index, basis, scalar, ket, bra, operator, Context, _⊠_}
+use Rattle.types.specs.Inside.{later}
 
 -- what a rule concludes of a part from the sorts of its children
 pub data Conclusion : Type 0 where
@@ -154,9 +155,37 @@ unfoldable pub listed : {A : Type 0} → Option A → (A → Sort) → Conclusio
 listed nothing f = fails
 listed (some a) f = gives (f a)
 
+-- whether a tree is an index where there are so many type names
+unfoldable mutual
+  unfolding headOf words count
+
+  pub indexTree : ℕ → Tree → Bool
+  indexTree n (node l cs) =
+      cond (eqb (headOf l 0 .0) 1) (ltb (headOf l 0 .1) n && eqb (count cs) 0)
+      (eqb (headOf l 0 .0) 2 && (eqb (count cs) 2 && (leb (length (words (node l cs))) maxIndex && indexTrees n cs)))
+
+  pub indexTrees : ℕ → Forest → Bool
+  indexTrees n none = true
+  indexTrees n (t ▹ f) = indexTree n t && indexTrees n f
+
+-- a bound basis has the index of its sum, where that has one
+unfoldable pub boundOf : ℕ → Option Tree → Conclusion
+unfolding indexTree
+boundOf n nothing = fails
+boundOf n (some σ) = cond (indexTree n σ) (gives (basis σ)) fails
+
+-- the body's sort, where it is a type
+unfoldable pub bodyOf : Sort → Conclusion
+bodyOf (index σ) = fails
+bodyOf (basis σ) = fails
+bodyOf scalar = gives scalar
+bodyOf (ket σ) = gives (ket σ)
+bodyOf (bra σ) = gives (bra σ)
+bodyOf (operator σ τ) = gives (operator σ τ)
+
 -- ---- the rules, by label
 unfoldable pub conclude : Context → Label → List Sort → Conclusion
-unfolding listed same short adjointOf arrayOf tensorOf scalarsOf sumOf
+unfolding listed same short adjointOf arrayOf tensorOf scalarsOf sumOf boundOf bodyOf
 conclude Γ (type-name a) ss = nil ss (cond (ltb a (Γ .types)) (gives (index (node (type-name a) none))) fails)
 conclude Γ (basis-name a) ss = nil ss (listed (getElem? (Γ .bases) a) basis)
 conclude Γ (variable a) ss = nil ss (listed (getElem? (Γ .variables) a) λ S. S)
@@ -183,6 +212,8 @@ conclude Γ mulk ss = two ss λ s t. toOperator s λ σ τ. toKet t λ υ. same 
 conclude Γ mulb ss = two ss λ s t. toBra s λ υ. toOperator t λ σ τ. same υ σ (gives (bra τ))
 conclude Γ outer ss = two ss λ s t. toKet s λ σ. toBra t λ τ. gives (operator σ τ)
 conclude Γ mulo ss = two ss λ s t. toOperator s λ σ τ. toOperator t λ υ ρ. same τ υ (gives (operator σ ρ))
+conclude Γ (bound-basis a) ss = nil ss (cond (ltb a maxBodies) (boundOf (Γ .types) (getElem? (Γ .bound) a)) fails)
+conclude Γ big-sum ss = two ss λ s t. toIndex s λ σ. cond (ltb (length (Γ .bound)) maxBodies) (bodyOf t) fails
 
 -- ---- the type of a part at an offset, or the offset of the first untyped part: that ends first, and among equal ends begins last (01, code 10).
 -- Children come before their parent, from left to right: so the first that fails is that one
@@ -209,11 +240,12 @@ join (typed s) (failed k) = failed k
 join (typed s) (sorts ss) = sorts (s ∷ ss)
 
 unfoldable mutual
-  unfolding close join
+  unfolding close join later
 
   pub typeOf : Context → ℕ → Tree → Typed
-  typeOf Γ at (node l cs) = close Γ at l (typesOf Γ (at + 1) cs)
+  typeOf Γ at (node l cs) = close Γ at l (typesOf Γ (later Γ l cs) (at + 1) cs)
 
-  pub typesOf : Context → ℕ → Forest → Children
-  typesOf Γ at none = sorts []
-  typesOf Γ at (t ▹ f) = join (typeOf Γ at t) (typesOf Γ (at + length (words t)) f)
+  -- of a row of children, the first in one context and the others in another
+  pub typesOf : Context → Context → ℕ → Forest → Children
+  typesOf Γ Δ at none = sorts []
+  typesOf Γ Δ at (t ▹ f) = join (typeOf Γ at t) (typesOf Δ Δ (at + length (words t)) f)

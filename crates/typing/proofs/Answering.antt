@@ -3,6 +3,7 @@ use mathlib.Core.Path.{_≡_, refl, sym, _∙_, ap}
 use mathlib.Core.Bool.{true, false, and-eq-true-iff}
 use mathlib.Core.Logic.{_≢_}
 use mathlib.Core.List.{List, [], _∷_, _++_}
+use mathlib.Core.Option.{some, none as nothing}
 use Prim.Native.Nat.{ℕ, zero, suc, _+_, _-_, _≤_, _<_}
 use native.Mathlib.Nat.{add-sub-cancel-left}
 use native.Mathlib.Omega.{arith}
@@ -19,10 +20,14 @@ use Rattle.term.proofs.TermTest.{term-tree}
 use Rattle.typing.specs.declared.sorts.Sorted as S
 use Rattle.typing.specs.declared.terms.Kind as K
 use Rattle.typing.specs.declared.terms.Typing as A
-use Rattle.typing.specs.Answers.{pad, typeRecord, refuse, typing, answerOf, typingOf}
+use Rattle.typing.specs.Answers.{pad, typeRecord, refuse, typing, strayed, answerOf, typingOf}
 use Rattle.declarations.specs.Declarations.{contextIn, namesIn, goodDeclarations}
 use Rattle.types.specs.Sorts.{Sort, index, basis, scalar, ket, bra, operator}
+use Rattle.types.specs.Rules.{_⊢_∶_}
+use Rattle.types.specs.Strays.{FirstStray, NoStray, strayOf}
 use Rattle.types.specs.TypeOf.{typed, typeOf}
+use Rattle.types.proofs.Strays.{strays, typed-no-stray}
+use Rattle.declarations.proofs.Entries.{well-formed}
 use Rattle.typebook.specs.Code.Shapes.{Shape, shapeOf, numberOf}
 use Rattle.typing.specs.Code.Shapes.{shapeAt, Small}
 use Rattle.typing.specs.Code.Verdicts.{kindOf}
@@ -75,9 +80,30 @@ module _ (ds ws : List ℕ) (n : ℕ) where
       no-term h = rw (eq-eqb _ _ size, good, h)
 
       pub the-term : isTerm (namesIn ds) ws n ≡ true
-          → typingOf ds ws n ≡ answerOf n (partDepth (take n ws) 0) (typeOf (contextIn ds) 0 (treeIn (parse (take n ws))))
+          → typingOf ds ws n ≡ strayed (strayOf 0 0 (treeIn (parse (take n ws)))) (answerOf n (partDepth (take n ws) 0) (typeOf (contextIn ds) 0 (treeIn (parse (take n ws)))))
       unfolding typingOf
       the-term h = rw (eq-eqb _ _ size, good, h)
+
+-- ---- the first stray part of a term, and that there is none where it has a sort
+module _ (ds : List ℕ) (t : Tree) where
+  pub first-stray : {k : ℕ} → strayOf 0 0 t ≡ some k → FirstStray (contextIn ds) t k
+  unfolding contextIn
+  first-stray e = strays (contextIn ds) t .0 _ .0 e
+
+  pub stray-first : {k : ℕ} → FirstStray (contextIn ds) t k → strayOf 0 0 t ≡ some k
+  unfolding contextIn
+  stray-first f = strays (contextIn ds) t .0 _ .1 f
+
+  pub no-stray : strayOf 0 0 t ≡ nothing → NoStray (contextIn ds) t
+  unfolding contextIn
+  no-stray e = strays (contextIn ds) t .1 .0 e
+
+  pub stray-none : NoStray (contextIn ds) t → strayOf 0 0 t ≡ nothing
+  unfolding contextIn
+  stray-none n = strays (contextIn ds) t .1 .1 n
+
+  pub sort-none : goodDeclarations ds ≡ true → {S : Sort} → contextIn ds ⊢ t ∶ S → strayOf 0 0 t ≡ nothing
+  sort-none good d = stray-none (typed-no-stray (contextIn ds) (well-formed ds good) t _ d)
 
 -- ---- words laid over zeros are the words with zeros behind
 zeros : (m k : ℕ) → m ≤ k → replicate {A = ℕ} m 0 ≡ take m (replicate k 0)

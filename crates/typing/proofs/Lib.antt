@@ -1,5 +1,8 @@
 -- The laws of typing that the crates above cite.
+mod Labels
 mod Lying
+mod Binding
+mod Straying
 mod Leaves
 mod Concluding
 mod Putting

@@ -57,7 +57,7 @@ pub above-lower : {low top : ℕ} {st st′ : List ℕ} → low ≤ top → Abov
 above-lower {low} {top} {st} {st′} h a = record { long = a .long; below = sym (take-take low top st′ h) ∙ ap (take low) (a .below) ∙ take-take low top st h }
 
 module _ (top : ℕ) (st st′ : List ℕ) (same : take top st′ ≡ take top st) where
-  run-kept : (at n : ℕ) → at + n ≤ top → run st′ at n ≡ run st at n
+  pub run-kept : (at n : ℕ) → at + n ≤ top → run st′ at n ≡ run st at n
   run-kept at n h = rw (run-is at n st′, run-is at n st, ← take-take (at + n) top st′ h, ← take-take (at + n) top st h, same)
 
   pub shape-kept : (at : ℕ) (s : S.Sorted) → at + s .left + s .right ≤ top → shapeAt st′ at s ≡ shapeAt st at s

@@ -8,18 +8,20 @@ use Prim.Native.Nat.{ℕ, zero, suc, _+_, _/_, _%_, _≤_, _<_}
 use native.Mathlib.Omega.{arith}
 use borrow.Author.Tests.{eq-eqb, ne-eqb, ltb-true}
 use lib.Dec.{eqb, ltb}
-use lib.ListN.{length, getD, set, length-append}
+use lib.ListN.{length, getD, getElem?, set, length-append}
 use Rattle.words.specs.Words.{laid, Added}
 use Rattle.term.specs.declared.heads.Class.the-variants.{Index, Scalar, Ket, Bra, Operator}
+use Rattle.term.specs.Trees.{Tree}
 use Rattle.types.specs.Sorts.{basis}
 use Rattle.declarations.specs.Declarations.{size, basisAt, variableAt, basisIn, variableIn, goodDeclarations}
 use Rattle.declarations.proofs.Entries.{basisLen, kind, firstLen, secondLen, basis-good, basis-room, variable-good, variable-room, kind-0, kind-1, kind-2, kind-3}
 use Rattle.typing.specs.declared.sorts.Run as R
+use Rattle.typing.specs.declared.sorts.Outcome as O
 use Rattle.typing.specs.declared.lookup.Entry as E
 use Rattle.typebook.specs.Code.Shapes.{Shape, shape, shapeOf, given}
 use Rattle.typing.specs.Code.Shapes.{shapeAt, runAt, Inside, Small, Room, plain, Answers}
 use Rattle.typing.specs.Code.Conclude.{runOf}
-use Rattle.typing.specs.Code.Verdicts.{sortedBy, bareEntry, basisEntry, variableEntry, entryOf, leafOf}
+use Rattle.typing.specs.Code.Verdicts.{boundShape, sortedBy, bareEntry, basisEntry, variableEntry, entryOf, leafOf}
 use Rattle.typing.proofs.Lying.{run-length, above-laid, laid-both, shape-laid, set-laid}
 
 -- ---- where an entry lies, and that its indices are short
@@ -101,9 +103,9 @@ module _ (ds : List ℕ) (a : ℕ) (h : (goodDeclarations ds ≡ true) × (a < g
   variable-holds = record { two = both; small = small-by (kind ds a); is = λ top st r. ap some (shape-by (kind ds a) refl top st r) }
 
 -- by the word
-pub entry-holds : (ds : List ℕ) (w : ℕ) → goodDeclarations ds ≡ true → w / 256 ≢ 1 → Holds ds (leafOf ds w) (entryOf ds w)
+pub entry-holds : (ds : List ℕ) (bs : List Tree) (w : ℕ) → goodDeclarations ds ≡ true → w / 256 ≢ 1 → w / 256 ≢ 28 → Holds ds (leafOf ds bs w) (entryOf ds w)
 unfolding entryOf leafOf
-entry-holds ds w g n = rw (ne-eqb (w / 256) 1 n) (go (eqb (w / 256) 3) (ltb (w % 256) (getD ds 1 0)) (eqb (w / 256) 26) (ltb (w % 256) (getD ds 2 0)) refl refl)
+entry-holds ds bs w g n m = rw (ne-eqb (w / 256) 1 n, ne-eqb (w / 256) 28 m) (go (eqb (w / 256) 3) (ltb (w % 256) (getD ds 1 0)) (eqb (w / 256) 26) (ltb (w % 256) (getD ds 2 0)) refl refl)
   where
     go : (b c d e : Bool) → ltb (w % 256) (getD ds 1 0) ≡ c → ltb (w % 256) (getD ds 2 0) ≡ e
         → Holds ds (cond b (given c (some (shapeOf (basis (basisIn ds (w % 256)))))) (cond d (given e (some (shapeOf (variableIn ds (w % 256))))) (some (shape Scalar [] []))))
@@ -120,13 +122,18 @@ pub leaf-put : (ds : List ℕ) {o : Option Shape} {k : E.Entry} (e : E.Entry) {t
 leaf-put ds {k = k} e {top} {st} is h r l = rw (l, is) (record { told = h .is top st r; small = λ y. h .small; kept = above-laid st top (runAt ds (k .left) ++ runAt ds (k .right)) (fits ds (k .left) (k .right) (h .two) top st r) })
 
 -- one word
-pub word-put : (ds : List ℕ) (w : ℕ) (st : List ℕ) (top : ℕ) → w / 256 ≡ 1 → Room top st
-    → Answers (leafOf ds w) (record { typed = ltb (w % 256) (getD ds 0 0); sorted = record { class = Index; left = 1; right = 0 } }) top st (set st top w)
+pub word-put : (ds : List ℕ) (bs : List Tree) (w : ℕ) (st : List ℕ) (top : ℕ) → w / 256 ≡ 1 → Room top st
+    → Answers (leafOf ds bs w) (record { typed = ltb (w % 256) (getD ds 0 0); sorted = record { class = Index; left = 1; right = 0 } }) top st (set st top w)
 unfolding leafOf
-word-put ds w st top e h =
+word-put ds bs w st top e h =
     let b : top + 1 ≤ length st = omega arith in
     rw (eq-eqb (w / 256) 1 e, set-laid st top w (omega arith)) (record {
       told = ap (λ (s : Shape). given (ltb (w % 256) (getD ds 0 0)) (some s)) (shape-laid Index st top (w ∷ []) [] b);
       small = λ y. (omega arith, omega arith);
       kept = above-laid st top (w ∷ []) b;
     })
+
+-- a bound basis: its sum stands for as many words as its record says
+pub bound-put : (ds : List ℕ) (bs : List Tree) (w : ℕ) {r : O.Outcome} {top : ℕ} {st st′ : List ℕ} → w / 256 ≡ 28 → Answers (boundShape (getD ds 0 0) (w % 256) bs) r top st st′ → Answers (leafOf ds bs w) r top st st′
+unfolding leafOf
+bound-put ds bs w e a = rw (e) a

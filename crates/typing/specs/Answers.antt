@@ -4,6 +4,7 @@ use mathlib.Core.Path.{_≡_}
 use mathlib.Core.Logic.{_≢_}
 use mathlib.Core.Bool.{true, false, cond}
 use mathlib.Core.List.{List, [], _++_}
+use mathlib.Core.Option.{Option, some, none as nothing}
 use Prim.Native.Nat.{ℕ, _≤_}
 use lib.Dec.{eqb}
 use lib.ListN.{length, take, replicate}
@@ -16,9 +17,10 @@ use Rattle.typing.specs.declared.terms.Sizes as Z
 use Rattle.typing.specs.declared.terms.TermType as T
 use Rattle.typing.specs.declared.terms.Typing as A
 use Rattle.declarations.specs.Declarations.{contextIn, namesIn, goodDeclarations}
-use Rattle.types.specs.Rules.{_⊢_∶_, IsType}
+use Rattle.types.specs.Rules.{_⊢_∶_}
 use Rattle.types.specs.First.{HasSort, FirstUntyped}
-use Rattle.types.specs.Sorts.{Sort, index, basis, scalar, ket, bra, operator}
+use Rattle.types.specs.Strays.{FirstStray, NoStray, strayOf}
+use Rattle.types.specs.Sorts.{Sort, index, basis, scalar, ket, bra, operator, IsType}
 use Rattle.types.specs.TypeOf.{Typed, typed, untyped, typeOf}
 
 -- a kind by its number, with the lengths that it carries
@@ -57,14 +59,20 @@ answerOf n d (typed (ket σ)) = typing n d (Kinds.Ket (length (words σ))) (word
 answerOf n d (typed (bra σ)) = typing n d (Kinds.Bra (length (words σ))) [] (words σ)
 answerOf n d (typed (operator σ τ)) = typing n d (Kinds.Operator (length (words σ)) (length (words τ))) (words σ) (words τ)
 
--- 01: "lent declarations, one work slice and a length. They test 1; 7 for bad declarations; 8, also for a length that is not the term's; 10; 11"
+-- 02, CR 1: "a side's 13 tested before its 10; in all else, single step and typing included, 13 is as 10"
+unfoldable pub strayed : Option ℕ → A.Typing → A.Typing
+unfolding refuse
+strayed nothing a = a
+strayed (some k) a = refuse 13 k
+
+-- 01: "lent declarations, one work slice and a length. They test 1; 7 for bad declarations; 8, also for a length that is not the term's; 10; 11", with 13 before 10
 unfoldable pub typingOf : List ℕ → List ℕ → ℕ → A.Typing
-unfolding refuse answerOf goodDeclarations isTerm namesIn partDepth typeOf contextIn treeIn
+unfolding refuse strayed answerOf goodDeclarations isTerm namesIn partDepth strayOf typeOf contextIn treeIn
 typingOf ds ws n =
     cond (eqb (length ws) maxWords)
     (cond (goodDeclarations ds)
     (cond (isTerm (namesIn ds) ws n)
-    (answerOf n (partDepth (take n ws) 0) (typeOf (contextIn ds) 0 (treeIn (parse (take n ws)))))
+    (strayed (strayOf 0 0 (treeIn (parse (take n ws)))) (answerOf n (partDepth (take n ws) 0) (typeOf (contextIn ds) 0 (treeIn (parse (take n ws))))))
     (refuse 8 0))
     (refuse 7 0))
     (refuse 1 0)
@@ -88,11 +96,13 @@ pub record TypedTerm (ds ws : List ℕ) (n : ℕ) (t : Tree) (S : Sort) : Type 0
   pub isType : IsType S
   pub rules : contextIn ds ⊢ t ∶ S
 
--- Every answer with what it says, each told apart from those before it. 01: "They test 1; 7 for bad declarations; 8, also for a length that is not the term's; 10; 11"
+-- Every answer with what it says, each told apart from those before it. 01: "They test 1; 7 for bad declarations; 8, also for a length that is not the term's; 10; 11"; 02, CR 1: "a side's
+-- 13 tested before its 10"
 pub data Verdict (ds ws : List ℕ) (n : ℕ) : A.Typing → Type 0 where
   wrong-size : length ws ≢ maxWords → Verdict ds ws n (refuse 1 0)
   bad-declarations : length ws ≡ maxWords → goodDeclarations ds ≡ false → Verdict ds ws n (refuse 7 0)
   no-term : length ws ≡ maxWords → goodDeclarations ds ≡ true → ((t : Tree) → HeldTerm ds ws n t → ⊥) → Verdict ds ws n (refuse 8 0)
-  no-sort : {t : Tree} {k : ℕ} → HeldTerm ds ws n t → (HasSort (contextIn ds) t → ⊥) → FirstUntyped (contextIn ds) t k → Verdict ds ws n (refuse 10 k)
+  stray : {t : Tree} {k : ℕ} → HeldTerm ds ws n t → FirstStray (contextIn ds) t k → Verdict ds ws n (refuse 13 k)
+  no-sort : {t : Tree} {k : ℕ} → HeldTerm ds ws n t → NoStray (contextIn ds) t → (HasSort (contextIn ds) t → ⊥) → FirstUntyped (contextIn ds) t k → Verdict ds ws n (refuse 10 k)
   no-type : {t : Tree} {S : Sort} → HeldTerm ds ws n t → contextIn ds ⊢ t ∶ S → (IsType S → ⊥) → Verdict ds ws n (refuse 11 0)
   a-type : {t : Tree} {S : Sort} → TypedTerm ds ws n t S → Verdict ds ws n (answerOf n (depth t) (typed S))

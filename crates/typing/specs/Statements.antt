@@ -8,9 +8,10 @@ use Rattle.term.specs.Trees.{Tree, words, depth}
 use Rattle.term.specs.Terms.{maxWords, IsTerm}
 use Rattle.types.specs.Sorts.{Sort}
 use Rattle.types.specs.First.{HasSort, FirstUntyped}
+use Rattle.types.specs.Strays.{FirstStray, NoStray}
 use Rattle.types.specs.TypeOf.{typed}
 use Rattle.declarations.specs.Declarations.{contextIn, namesIn, goodDeclarations}
-use Rattle.typing.specs.Answers.{refuse, answerOf, typingOf, TypedTerm, Verdict}
+use Rattle.typing.specs.Answers.{refuse, answerOf, typingOf, HeldTerm, TypedTerm, Verdict}
 
 -- what is accepted is a term, and has a type by the rules
 abbrev pub Sound : Type 0
@@ -20,11 +21,15 @@ Sound = (ds ws : List ℕ) (n : ℕ) → typingOf ds ws n .code ≡ 0 → (t : T
 abbrev pub Complete : Type 0
 Complete = (ds ws : List ℕ) (n : ℕ) (t : Tree) (S : Sort) → TypedTerm ds ws n t S → typingOf ds ws n ≡ answerOf n (depth t) (typed S)
 
--- a term that has no sort is refused with 10, at the part that document 01 names
+-- a term with a stray part is refused with 13, at the first one
+abbrev pub StrayPlaces : Type 0
+StrayPlaces = (ds ws : List ℕ) (n : ℕ) (t : Tree) (k : ℕ) → HeldTerm ds ws n t → FirstStray (contextIn ds) t k → typingOf ds ws n ≡ refuse 13 k
+
+-- a term that has none and no sort is refused with 10, at the part that document 01 names
 abbrev pub Places : Type 0
 Places =
     (ds ws : List ℕ) (n : ℕ) (t : Tree) → length ws ≡ maxWords → goodDeclarations ds ≡ true → n ≤ length ws → words t ≡ take n ws → IsTerm (namesIn ds) t
-    → (HasSort (contextIn ds) t → ⊥) → (k : ℕ) × FirstUntyped (contextIn ds) t k × (typingOf ds ws n ≡ refuse 10 k)
+    → NoStray (contextIn ds) t → (HasSort (contextIn ds) t → ⊥) → (k : ℕ) × FirstUntyped (contextIn ds) t k × (typingOf ds ws n ≡ refuse 10 k)
 
 -- every answer says what it means
 abbrev pub Decided : Type 0

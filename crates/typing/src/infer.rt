@@ -1,4 +1,8 @@
 // The sort of a part, or the place of the first untyped one.
+use crate::bodies::Around;
+use crate::bodies::enter;
+use crate::bodies::is_ninth;
+use crate::bodies::put_bound;
 use crate::gathering::gather;
 use crate::gathering::none_yet;
 use crate::lookup::entry_of;
@@ -14,10 +18,11 @@ use words::word_at;
 ghost use mathlib.Core.Path.{_≡_};
 ghost use mathlib.Core.Bool.{true};
 ghost use Prim.Native.Nat.{_+_, _≤_};
-ghost use lib.ListN.{length};
-ghost use Rattle.declarations.specs.Declarations.{contextIn, goodDeclarations};
+ghost use lib.ListN.{length, getD};
+ghost use Rattle.declarations.specs.Declarations.{goodDeclarations};
 ghost use Rattle.typing.specs.Code.Shapes.{Room, Answers};
-ghost use Rattle.typing.specs.Code.Verdicts.{refusal, settlement, leafOf, need, Found};
+ghost use Rattle.typing.specs.Code.Chains.{Held};
+ghost use Rattle.typing.specs.Code.Verdicts.{refusal, settlement, leafOf, contextAt, need, Found};
 
 // What typing finds of a part: its number of words, its depth and its sort, or the offset of the first untyped part.
 pub struct Verdict {
@@ -57,11 +62,14 @@ fn settled(size: usize, depth: usize, outcome: Outcome) -> Verdict
     }
 }
 
-// What is found of a head without children. The declarations were tested.
-fn conclude_leaf(ds: &[u16], word: u16, stack: &mut [u16], top: usize) -> Outcome
-    requires { ⌜ (goodDeclarations (now ds) ≡ true) × Room top (now stack) ⌝ }
-    ensures { λ r. ⌜ Answers (leafOf (now (ds .entry)) word) r top (now (stack .entry)) (now (stack .exit)) ⌝ }
+// What is found of a head without children, with such bodies around it. The declarations were tested.
+fn conclude_leaf(ds: &[u16], word: u16, stack: &mut [u16], top: usize, around: Around) -> Outcome
+    requires { ⌜ (goodDeclarations (now ds) ≡ true) × Room top (now stack) × (length (now stack) ≤ 8320) × Held (getD (now ds) 0 0) (now stack) top around ⌝ }
+    ensures { λ r. ⌜ ((x : Held (getD (now (ds .entry)) 0 0) (now (stack .entry)) top around) → Answers (leafOf (now (ds .entry)) (x .trees) word) r top (now (stack .entry)) (now (stack .exit))) ⌝ }
 {
+    if word / 256 == 28 {
+        return put_bound(stack, top, around, (word % 256) as usize);
+    }
     if word / 256 == 1 {
         stack[top] = word;
         return Outcome {
@@ -85,10 +93,17 @@ fn conclude_leaf(ds: &[u16], word: u16, stack: &mut [u16], top: usize) -> Outcom
 }
 
 // The sort of the whole part with which `ws` begins, with its words on the stack from `top` on; or the offset of its first untyped part. It calls itself no deeper than the
-// budget.
-pub fn type_part(ds: &[u16], ws: &[u16], stack: &mut [u16], top: usize, budget: usize) -> Verdict
-    requires { ⌜ (goodDeclarations (now ds) ≡ true) × (top + need (length (now ws)) budget ≤ length (now stack)) × (length (now stack) ≤ 8190) × (budget ≤ 64) ⌝ }
-    ensures { λ r. ⌜ Found (contextIn (now (ds .entry))) (now (ws .entry)) budget top r (now (stack .entry)) (now (stack .exit)) ⌝ }
+// budget. A sum over a basis in eight bodies has no sort, and its children are typed all the same: the place of the first untyped part is that of every term.
+pub fn type_part(
+    ds: &[u16],
+    ws: &[u16],
+    stack: &mut [u16],
+    top: usize,
+    around: Around,
+    budget: usize,
+) -> Verdict
+    requires { ⌜ (goodDeclarations (now ds) ≡ true) × (top + need (length (now ws)) budget ≤ length (now stack)) × (length (now stack) ≤ 8320) × (around .bodies + budget ≤ 64) × Held (getD (now ds) 0 0) (now stack) top around ⌝ }
+    ensures { λ r. ⌜ ((x : Held (getD (now (ds .entry)) 0 0) (now (stack .entry)) top around) → Found (contextAt (now (ds .entry)) (x .trees)) (now (ws .entry)) budget top r (now (stack .entry)) (now (stack .exit))) ⌝ }
 {
     if budget == 0 {
         return refused(0);
@@ -98,7 +113,7 @@ pub fn type_part(ds: &[u16], ws: &[u16], stack: &mut [u16], top: usize, budget: 
         return refused(0);
     };
     if n == 0 {
-        return settled(1, 1, conclude_leaf(ds, word, stack, top));
+        return settled(1, 1, conclude_leaf(ds, word, stack, top, around));
     }
     let head = (word / 256) as usize;
     let mut g = none_yet(head, top);
@@ -106,15 +121,20 @@ pub fn type_part(ds: &[u16], ws: &[u16], stack: &mut [u16], top: usize, budget: 
     let mut next = 1;
     let mut k = 0;
     while k < n {
-        let child = type_part(ds, &ws[next..], stack, g.free, budget - 1);
+        let first = g.first;
+        let within = enter(head, k, stack, top, first, around);
+        let child = type_part(ds, &ws[next..], stack, g.free, within, budget - 1);
         if !child.typed {
             return refused(next + child.at);
         }
         let s = child.sorted;
-        g = gather(k, stack, top, g, s);
+        g = gather(head, k, stack, top, g, s);
         deepest = larger(deepest, child.depth);
         next += child.size;
         k += 1;
+    }
+    if is_ninth(head, around.bodies) {
+        return refused(0);
     }
     settled(next, deepest + 1, conclude(head, n, stack, top, g))
 }

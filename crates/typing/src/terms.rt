@@ -1,7 +1,9 @@
 // The typing of one term.
+use crate::bodies::Around;
 use crate::infer::Verdict;
 use crate::infer::type_part;
 use crate::sorts::Sorted;
+use crate::strays::stray_in;
 use declarations::are_good;
 use declarations::names_of;
 use term::terms::all_declared;
@@ -145,21 +147,25 @@ fn answered(size: usize, depth: usize, stack: &[u16], s: Sorted) -> Typing
 // What the walk finds of some words, and the words of its sort at the bottom of the stack, which is large enough for a term of ten. To clear a large one takes longer than to type a
 // term of few words, so that a larger term has its own.
 fn walk(ds: &[u16], ws: &[u16], stack: &mut [u16]) -> Verdict
-    requires { ⌜ (goodDeclarations (now ds) ≡ true) × (length (now ws) ≤ 4096) × (length (now stack) ≡ 756) ⌝ }
+    requires { ⌜ (goodDeclarations (now ds) ≡ true) × (length (now ws) ≤ 4096) × (length (now stack) ≡ 768) ⌝ }
     ensures { λ r. ⌜ Found (contextIn (now (ds .entry))) (now (ws .entry)) 64 0 r (now (stack .entry)) (now (stack .exit)) ⌝ }
 {
     let n = ws.len();
+    let none = Around {
+        bodies: 0,
+        inner: 0,
+    };
     if n <= 10 {
-        return type_part(ds, ws, stack, 0, 64);
+        return type_part(ds, ws, stack, 0, none, 64);
     }
     if n <= 30 {
-        let mut larger = [0u16; 2016];
-        let found = type_part(ds, ws, &mut larger, 0, 64);
+        let mut larger = [0u16; 2048];
+        let found = type_part(ds, ws, &mut larger, 0, none, 64);
         copy_words(stack, &larger[..126]);
         return found;
     }
-    let mut larger = [0u16; 8190];
-    let found = type_part(ds, ws, &mut larger, 0, 64);
+    let mut larger = [0u16; 8320];
+    let found = type_part(ds, ws, &mut larger, 0, none, 64);
     copy_words(stack, &larger[..126]);
     found
 }
@@ -170,7 +176,7 @@ fn typed_in(ds: &[u16], ws: &[u16]) -> Typing
     ensures { λ r. ⌜ r ≡ typingIn (now (ds .entry)) (now (ws .entry)) ⌝ }
 {
     let n = ws.len();
-    let mut stack = [0u16; 756];
+    let mut stack = [0u16; 768];
     let found = walk(ds, ws, &mut stack);
     if found.typed {
         if found.size != n {
@@ -185,10 +191,14 @@ fn typed_in(ds: &[u16], ws: &[u16]) -> Typing
     if !is_term(names_of(ds), ws, n) {
         return refused_with(8, 0);
     }
+    let stray = stray_in(ws, 0, 0, 64);
+    if stray.found {
+        return refused_with(13, stray.at);
+    }
     refused_with(10, found.at)
 }
 
-// The type of the term in the first `n` words of a work slice, under declarations. Nothing is relied on: the tests are 1, 7, 8, 10 and 11.
+// The type of the term in the first `n` words of a work slice, under declarations. Nothing is relied on: the tests are 1, 7, 8, 13, 10 and 11.
 pub fn type_term(ds: &[u16], ws: &[u16], n: usize) -> Typing
     ensures { λ r. ⌜ r ≡ typingOf (now (ds .entry)) (now (ws .entry)) n ⌝ }
 {

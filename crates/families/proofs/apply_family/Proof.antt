@@ -1,6 +1,6 @@
 -- The family is the one that the row numbers.
 use borrow.Author.Needs.{needs}
-use Rattle.families.proofs.Dispatched.{removes, absorbs, merges, swaps}
+use Rattle.families.proofs.Dispatched.{removes, absorbs, merges, swaps, distributes}
 use Rattle.families.proofs.apply_family.Statement.{statement}
 use Rattle.families.proofs.apply_family.Tie as tie
 
@@ -47,7 +47,19 @@ same-length-5 : tie.Need-same-length-5
 same-length-5 c = search needs
 
 returns-5 : tie.Need-returns-5
-returns-5 c = λ rule x. let pre = c .before .before .before .before .before .before .before .before .before .before .before .before .before .before .pre in swaps _ _ _ _ _ _ x (pre .2) (c .before .before .before .before .before .before .before .before .before .before .if1 .left) (c .before .before .before .before .before .before .before .before .if2 .left) (c .before .before .before .before .before .before .if3 .left) (c .before .before .before .before .if4 .left) (pre .3) (c .before .before .swap .ensures)
+returns-5 c = λ rule x. swaps _ _ _ _ _ _ x (c .before .before .before .before .if5 .taken) (c .before .before .swap .ensures)
+
+distribute-requires : tie.Need-distribute-requires
+distribute-requires c κs = search needs
+
+same-length-6 : tie.Need-same-length-6
+same-length-6 c = search needs
+
+returns-6 : tie.Need-returns-6
+returns-6 c =
+    let five = c .before .before .before .before in
+    let pre = five .before .before .before .before .before .before .before .before .before .before .before .before .pre in
+    λ rule x. distributes _ _ _ _ _ _ x (pre .2) (five .before .before .before .before .before .before .before .before .if1 .left) (five .before .before .before .before .before .before .if2 .left) (five .before .before .before .before .if3 .left) (five .before .before .if4 .left) (pre .3) (five .if5 .left) (c .before .before .distribute .ensures)
 
 pub apply-family-spec : {M : Type 1} → statement M
 apply-family-spec =
@@ -67,4 +79,7 @@ apply-family-spec =
     returns-4
     swap-requires
     same-length-5
-    returns-5)
+    returns-5
+    distribute-requires
+    same-length-6
+    returns-6)

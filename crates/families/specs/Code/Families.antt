@@ -3,31 +3,35 @@ use mathlib.Core.Path.{_≡_}
 use mathlib.Core.Bool.{Bool, true, _||_}
 use mathlib.Core.List.{List}
 use Prim.Native.Nat.{ℕ, _/_, _<_}
-use lib.Dec.{eqb}
+use lib.Dec.{eqb, ltb}
 use Rattle.term.specs.Heads.{Label, word}
 use Rattle.term.specs.Parts.{parse, treeIn}
 use Rattle.types.specs.Sorts.{Context}
 use Rattle.rules.specs.Patterns.{Pattern}
-use Rattle.rules.specs.Table.{Kind, Rule, Which, child, child-i, Summand, _⇒_▷_, spreading, removing, absorbing, merging, collecting, swapping}
+use Rattle.rules.specs.Table.{Condition, Rule, Which, child, child-i, Summand, _⇒_▷_, spreading, removing, absorbing, merging, collecting, swapping, distributing}
 use Rattle.rules.specs.Instances.{Chain}
 use Rattle.rules.specs.Rewrite.{nameless, place, usable, rewrite}
 use Rattle.rulebook.specs.declared.Row.{Row}
-use Rattle.rulebook.specs.Code.Rows.{headOf, whichNumber, summandNumber}
+use Rattle.rulebook.specs.Code.Rows.{headNumber, whichNumber, summandNumber}
 use Rattle.families.specs.declared.writing.Rewritten.{Rewritten}
 use Rattle.families.specs.Writing.{Writes}
 
 -- a head without a name, and one with any number of children, by their numbers
 pub record Named (h : ℕ) (l : Label) : Type 0 where
-  pub number : h ≡ headOf l
+  pub number : h ≡ headNumber l
   pub nameless : nameless l ≡ true
 
 pub record Counted (h : ℕ) (l : Label) : Type 0 where
-  pub number : h ≡ headOf l
+  pub number : h ≡ headNumber l
   pub chain : Chain l
 
 -- 01, of 170: "of a 7, 8 or 20"
 abbrev pub chainWord : ℕ → Bool
 chainWord w = eqb (w / 256) 7 || (eqb (w / 256) 8 || eqb (w / 256) 20)
+
+-- the families that may leave a part deeper
+unfoldable pub deepensIn : ℕ → Bool
+deepensIn f = ltb f 3 || (eqb f 6 || eqb f 8)
 
 module _ (ws out : List ℕ) (at : ℕ) (out′ : List ℕ) (r : Rewritten) where
   -- what a rule with indices makes of the part is written, in every context
@@ -46,6 +50,9 @@ module _ (ws out : List ℕ) (at : ℕ) (out′ : List ℕ) (r : Rewritten) wher
   abbrev pub Swaps : ℕ → Type 0
   Swaps i = Does swapping i 0
 
+  abbrev pub Distributes : ℕ → Type 0
+  Distributes i = Does distributing i 0
+
   -- over the k-th child, which is the one that the rule wants
   abbrev pub Spreads : ℕ → ℕ → ℕ → ℕ → Type 0
   Spreads parent k sum result =
@@ -61,10 +68,11 @@ Fixed child-i = Unit {0}
 
 -- What a row says of its rule: the family, and the heads or the summands that it asks for
 pub data Lined (row : Row) : Rule → Type 0 where
-  an-equation : {k : Kind} {l r : Pattern} → row .family ≡ 1 → Lined row (k ⇒ l ▷ r)
+  an-equation : {k : Condition} {l r : Pattern} → row .family ≡ 1 → Lined row (k ⇒ l ▷ r)
   a-spreading : {l s r : Label} {w : Which} → row .family ≡ 2 → Named (row .a) l → row .b ≡ whichNumber w → Fixed w → Counted (row .c) s → Counted (row .d) r → Lined row (spreading l w s r)
   a-removing : {l c : Label} → row .family ≡ 3 → Counted (row .a) l → Named (row .b) c → Lined row (removing l c)
   an-absorbing : row .family ≡ 4 → Lined row absorbing
   a-merging : row .family ≡ 5 → Lined row merging
   a-collecting : {u v : Summand} → row .family ≡ 6 → row .a ≡ summandNumber u → row .b ≡ summandNumber v → Lined row (collecting u v)
   a-swapping : row .family ≡ 7 → Lined row swapping
+  a-distributing : row .family ≡ 8 → Lined row distributing

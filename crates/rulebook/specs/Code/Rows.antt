@@ -8,7 +8,7 @@ use lib.Dec.{eqb}
 use lib.ListN.{length}
 use Rattle.term.specs.Heads.{Label, word}
 use Rattle.rules.specs.Patterns.{Pattern, #_, first, second, _⟨⟩, _⟨_⟩, _⟨_∣_⟩}
-use Rattle.rules.specs.Table.{Kind, any, a-ket, a-bra, an-operator, Which, child, child-i, Summand, plain, scaled, Rule, _⇒_▷_, spreading, removing, absorbing, merging, collecting, swapping, Line, _∶_, table, ruleOf}
+use Rattle.rules.specs.Table.{Condition, any, a-ket, a-bra, an-operator, unused, Which, child, child-i, Summand, plain, scaled, Rule, _⇒_▷_, spreading, removing, absorbing, merging, collecting, swapping, distributing, Line, _∶_, table, ruleOf}
 use Rattle.rulebook.specs.declared.Row.{Row}
 
 -- ---- the words of a pattern: in document 01's encoding, with words of unknown heads for hole k (255:k), `first k` (254:k) and `second k` (253:k)
@@ -30,6 +30,7 @@ ruleWords absorbing = []
 ruleWords merging = []
 ruleWords (collecting u v) = []
 ruleWords swapping = []
+ruleWords distributing = []
 
 unfoldable pub wordsOf : List Line → List ℕ
 unfolding ruleWords
@@ -58,14 +59,15 @@ unfoldable pub startIn : ℕ → List Line → ℕ
 startIn n ls = startAmong n (grouped (n / 50) ls)
 
 -- ---- numbers for what a rule is made of
-abbrev pub headOf : Label → ℕ
-headOf l = word l 0 / 256
+abbrev pub headNumber : Label → ℕ
+headNumber l = word l 0 / 256
 
-abbrev pub kindNumber : Kind → ℕ
-kindNumber any = 0
-kindNumber a-ket = 1
-kindNumber a-bra = 2
-kindNumber an-operator = 3
+abbrev pub conditionNumber : Condition → ℕ
+conditionNumber any = 0
+conditionNumber a-ket = 1
+conditionNumber a-bra = 2
+conditionNumber an-operator = 3
+conditionNumber unused = 4
 
 -- the child that is spread over, by its number; 2 is child i
 abbrev pub whichNumber : Which → ℕ
@@ -77,21 +79,22 @@ summandNumber plain = 0
 summandNumber scaled = 1
 
 -- ---- a row: the family, and what it asks
--- 0 no rule; 1 an equation: where its words begin in its group, how many its left and its right side have, the kind wanted; 2 spreading: the head, which child, the sum's head,
--- the result's; 3 removing: the parent's head, the child's; 4 absorbing; 5 merging; 6 collecting: whether each summand is scaled; 7 swapping
+-- 0 no rule; 1 an equation: where its words begin in its group, how many its left and its right side have, its condition; 2 spreading: the head, which child, the sum's head,
+-- the result's; 3 removing: the parent's head, the child's; 4 absorbing; 5 merging; 6 collecting: whether each summand is scaled; 7 swapping; 8 distributing
 abbrev pub row : ℕ → ℕ → ℕ → ℕ → ℕ → Row
 row f a b c d = record { family = f; a = a; b = b; c = c; d = d }
 
 unfoldable pub rowFor : ℕ → Option Rule → Row
 unfolding patternWords
 rowFor at none = row 0 0 0 0 0
-rowFor at (some (k ⇒ l ▷ r)) = row 1 at (length (patternWords l)) (length (patternWords r)) (kindNumber k)
-rowFor at (some (spreading l w s r)) = row 2 (headOf l) (whichNumber w) (headOf s) (headOf r)
-rowFor at (some (removing l c)) = row 3 (headOf l) (headOf c) 0 0
+rowFor at (some (k ⇒ l ▷ r)) = row 1 at (length (patternWords l)) (length (patternWords r)) (conditionNumber k)
+rowFor at (some (spreading l w s r)) = row 2 (headNumber l) (whichNumber w) (headNumber s) (headNumber r)
+rowFor at (some (removing l c)) = row 3 (headNumber l) (headNumber c) 0 0
 rowFor at (some absorbing) = row 4 0 0 0 0
 rowFor at (some merging) = row 5 0 0 0 0
 rowFor at (some (collecting u v)) = row 6 (summandNumber u) (summandNumber v) 0 0
 rowFor at (some swapping) = row 7 0 0 0 0
+rowFor at (some distributing) = row 8 0 0 0 0
 
 -- the row of a rule's number
 unfoldable pub rowOf : ℕ → Row

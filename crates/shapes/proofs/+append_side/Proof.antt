@@ -8,33 +8,33 @@ use borrow.Fn.Kinds.{In}
 use borrow.Fn.PlainCycle.{Measures, is, falls, and}
 use lib.ListN.{length}
 use Rattle.words.proofs.Runs.{added, added-both, added-as}
-use Rattle.shapes.proofs.Steps.{inside, some-rule, part-run, side-index, side-product, side-declared, side-child}
+use Rattle.shapes.proofs.Steps.{inside, some-rule, side-index, side-product, side-bound, side-declared, side-child}
 use Rattle.shapes.proofs.append_side.Reads as append-side
 use Rattle.shapes.proofs.append_side.Kinds as append-side-kinds
 use Rattle.shapes.proofs.+append_side.Lts-append_side as append-side-lts
+use Rattle.shapes.proofs.append_bound.Reads as append-bound-reads
+use Rattle.shapes.proofs.append_part.Reads as append-part-reads
 use Rattle.shapes.proofs.child_at.Reads as child-at-reads
 use Rattle.shapes.proofs.class_by_head.Reads as class-by-head-reads
 use Rattle.shapes.proofs.declared_index.Reads as declared-index-reads
 use Rattle.shapes.proofs.digit_of.Reads as digit-of-reads
 use Rattle.shapes.proofs.word_within.Reads as word-within-reads
-use Rattle.term.proofs.parts.part_end.Reads as part-end-reads
 use Rattle.typebook.proofs.rule_of.Reads as rule-of-reads
 use Rattle.words.proofs.append.Reads as append-reads
-use Rattle.words.proofs.append_run.Reads as append-run-reads
 use Rattle.words.proofs.append_word.Reads as append-word-reads
 use Rattle.shapes.proofs.+append_side.{statement}
 use Rattle.shapes.proofs.+append_side.Tie.{close}
 
-abbrev μ-append-side : Measures 3 append-side-kinds.ps ℕ
-μ-append-side κs a = a .1 .1 .1 .1 .0
+abbrev μ-append-side : Measures 4 append-side-kinds.ps ℕ
+μ-append-side κs a = a .1 .1 .1 .1 .1 .1 .0
 
-abbrev append-side-at : ℕ → In 3 append-side-kinds.ps
+abbrev append-side-at : ℕ → In 4 append-side-kinds.ps
 append-side-at t =
-    and 3 append-side-kinds.ps (is 3 append-side-kinds.ps μ-append-side t) append-side.Pre
+    and 4 append-side-kinds.ps (is 4 append-side-kinds.ps μ-append-side t) append-side.Pre
 
-abbrev append-side-below : ℕ → In 3 append-side-kinds.ps
+abbrev append-side-below : ℕ → In 4 append-side-kinds.ps
 append-side-below t =
-    and 3 append-side-kinds.ps (falls 3 append-side-kinds.ps _<_ μ-append-side t) append-side.Pre
+    and 4 append-side-kinds.ps (falls 4 append-side-kinds.ps _<_ μ-append-side t) append-side.Pre
 
 abbrev claims : ℕ → append-side-lts.Claims
 claims t = (
@@ -42,10 +42,8 @@ claims t = (
   word-within-reads.Learnt,
   class-by-head-reads.Asked,
   class-by-head-reads.Learnt,
-  part-end-reads.Asked,
-  part-end-reads.Learnt,
-  append-run-reads.Asked,
-  append-run-reads.Learnt,
+  append-part-reads.Asked,
+  append-part-reads.Learnt,
   rule-of-reads.Asked,
   rule-of-reads.Learnt,
   child-at-reads.Asked,
@@ -56,6 +54,8 @@ claims t = (
   append-side.Post,
   digit-of-reads.Asked,
   digit-of-reads.Learnt,
+  append-bound-reads.Asked,
+  append-bound-reads.Learnt,
   declared-index-reads.Asked,
   declared-index-reads.Learnt,
   append-reads.Asked,
@@ -64,20 +64,20 @@ claims t = (
 
 -- a head that has a rule is no word past the end, and there is budget for it
 product : (t : ℕ) (c : append-side-lts.Then2 (claims t) (append-side-at t) append-side.Post)
-    → let args = c .before .before .before .before .before .before .before .before .args in (args .budget ≢ 0) × (args .from < length (args .ws .now))
+    → let args = c .before .before .before .before .before .before .before .before .before .args in (args .budget ≢ 0) × (args .from < length (args .ws .now))
 product t c =
     let r = c .before in
     let w = r .before .before .before in
-    let args = w .before .before .before .before .args in
+    let args = w .before .before .before .before .before .args in
     inside (args .ws .now) (args .budget) (args .from) (w .word-within .ensures) (r .rule-of .ensures) (λ z. let h = c .if2 .taken in omega arith)
 
 child : (t : ℕ) (c : append-side-lts.Else3 (claims t) (append-side-at t) append-side.Post)
-    → let args = c .before .before .before .before .before .before .before .before .before .before .args in (args .budget ≢ 0) × (args .from < length (args .ws .now))
+    → let args = c .before .before .before .before .before .before .before .before .before .before .before .args in (args .budget ≢ 0) × (args .from < length (args .ws .now))
 child t c =
     let d = c .before in
     let r = d .before .before in
     let w = r .before .before .before in
-    let args = w .before .before .before .before .args in
+    let args = w .before .before .before .before .before .args in
     inside (args .ws .now) (args .budget) (args .from) (w .word-within .ensures) (r .rule-of .ensures) (some-rule (args .right) (d .digit-of .ensures) (c .if3 .left))
 
 append-side-word-within-requires : (t : ℕ) → append-side-lts.Need-word-within-requires (claims t) (append-side-at t) append-side.Post
@@ -89,11 +89,8 @@ append-side-cast-head t c = search needs
 append-side-class-by-head-requires : (t : ℕ) → append-side-lts.Need-class-by-head-requires (claims t) (append-side-at t) append-side.Post
 append-side-class-by-head-requires t c κs = search needs
 
-append-side-part-end-requires : (t : ℕ) → append-side-lts.Need-part-end-requires (claims t) (append-side-at t) append-side.Post
-append-side-part-end-requires t c κs = search needs
-
-append-side-append-run-requires : (t : ℕ) → append-side-lts.Need-append-run-requires (claims t) (append-side-at t) append-side.Post
-append-side-append-run-requires t c κs = search needs
+append-side-append-part-requires : (t : ℕ) → append-side-lts.Need-append-part-requires (claims t) (append-side-at t) append-side.Post
+append-side-append-part-requires t c κs = search needs
 
 append-side-same-length : (t : ℕ) → append-side-lts.Need-same-length (claims t) (append-side-at t) append-side.Post
 append-side-same-length t c = search needs
@@ -101,9 +98,9 @@ append-side-same-length t c = search needs
 append-side-returns : (t : ℕ) → append-side-lts.Need-returns (claims t) (append-side-at t) append-side.Post
 append-side-returns t c =
     let u = c .before .before in
-    let h = u .before .before .before .before in
-    let e = u .append-run .ensures in
-    added-as (part-run _ _ (u .before .part-end .ensures) ∙ side-index _ _ _ _ _ (h .before .word-within .ensures) (h .class-by-head .ensures) (u .before .before .before .if1 .taken)) (added _ _ _ _ _ (e .0) (e .1))
+    let n = u .before .before in
+    let h = n .before in
+    added-as (side-index _ _ _ _ _ _ (h .before .word-within .ensures) (h .class-by-head .ensures) (n .if1 .taken)) (u .append-part .ensures)
 
 append-side-rule-of-requires : (t : ℕ) → append-side-lts.Need-rule-of-requires (claims t) (append-side-at t) append-side.Post
 append-side-rule-of-requires t c κs = search needs
@@ -141,17 +138,17 @@ append-side-returns-2 t c =
     let u = word .before .before in
     let r = u .before .before in
     let h = r .before .before in
-    added-as (side-product _ _ _ _ _ (h .before .word-within .ensures) (h .class-by-head .ensures) (r .before .if1 .left) (r .rule-of .ensures) (u .before .if2 .taken) (u .child-at .ensures))
+    added-as (side-product _ _ _ _ _ _ (h .before .word-within .ensures) (h .class-by-head .ensures) (r .before .if1 .left) (r .rule-of .ensures) (u .before .if2 .taken) (u .child-at .ensures))
     (added-both (added _ _ _ _ _ (e .0) (e .1)) (added-both (first .append-side .ensures) (second .append-side2 .ensures)))
 
 append-side-digit-of-requires : (t : ℕ) → append-side-lts.Need-digit-of-requires (claims t) (append-side-at t) append-side.Post
 append-side-digit-of-requires t c κs = search needs
 
-append-side-declared-index-requires : (t : ℕ) → append-side-lts.Need-declared-index-requires (claims t) (append-side-at t) append-side.Post
-append-side-declared-index-requires t c κs = search needs
+append-side-cast-append-bound : (t : ℕ) → append-side-lts.Need-cast-append-bound (claims t) (append-side-at t) append-side.Post
+append-side-cast-append-bound t c = search needs
 
-append-side-append-requires : (t : ℕ) → append-side-lts.Need-append-requires (claims t) (append-side-at t) append-side.Post
-append-side-append-requires t c κs = search needs
+append-side-append-bound-requires : (t : ℕ) → append-side-lts.Need-append-bound-requires (claims t) (append-side-at t) append-side.Post
+append-side-append-bound-requires t c κs = search needs
 
 append-side-same-length-3 : (t : ℕ) → append-side-lts.Need-same-length-3 (claims t) (append-side-at t) append-side.Post
 append-side-same-length-3 t c = search needs
@@ -159,13 +156,34 @@ append-side-same-length-3 t c = search needs
 append-side-returns-3 : (t : ℕ) → append-side-lts.Need-returns-3 (claims t) (append-side-at t) append-side.Post
 append-side-returns-3 t c =
     let u = c .before .before in
-    let d = u .before .before .before .before in
+    let b = u .before .before in
+    let d = b .before .before in
+    let r = d .before .before in
+    let h = r .before .before in
+    added-as
+    (side-bound _ _ _ _ _ _ (h .before .word-within .ensures) (h .class-by-head .ensures) (r .before .if1 .left) (r .rule-of .ensures) (d .before .if2 .left) (d .digit-of .ensures) (b .before .if3 .taken) (b .if4 .taken))
+    (u .append-bound .ensures)
+
+append-side-declared-index-requires : (t : ℕ) → append-side-lts.Need-declared-index-requires (claims t) (append-side-at t) append-side.Post
+append-side-declared-index-requires t c κs = search needs
+
+append-side-append-requires : (t : ℕ) → append-side-lts.Need-append-requires (claims t) (append-side-at t) append-side.Post
+append-side-append-requires t c κs = search needs
+
+append-side-same-length-4 : (t : ℕ) → append-side-lts.Need-same-length-4 (claims t) (append-side-at t) append-side.Post
+append-side-same-length-4 t c = search needs
+
+append-side-returns-4 : (t : ℕ) → append-side-lts.Need-returns-4 (claims t) (append-side-at t) append-side.Post
+append-side-returns-4 t c =
+    let u = c .before .before in
+    let b = u .before .before .before in
+    let d = b .before .before in
     let r = d .before .before in
     let h = r .before .before in
     let e = u .append .ensures in
     added-as
     (u .before .declared-index .ensures
-    ∙ side-declared _ _ _ _ _ (h .before .word-within .ensures) (h .class-by-head .ensures) (r .before .if1 .left) (r .rule-of .ensures) (d .before .if2 .left) (d .digit-of .ensures) (u .before .before .before .if3 .taken))
+    ∙ side-declared _ _ _ _ _ _ (h .before .word-within .ensures) (h .class-by-head .ensures) (r .before .if1 .left) (r .rule-of .ensures) (d .before .if2 .left) (d .digit-of .ensures) (b .before .if3 .taken) (b .if4 .left))
     (added _ _ _ _ _ (e .0) (e .1))
 
 append-side-child-at-requires-2 : (t : ℕ) → append-side-lts.Need-child-at-requires-2 (claims t) (append-side-at t) append-side.Post
@@ -177,17 +195,17 @@ append-side-sub-append-side-3 t c = let h = child t (c .before) .0 in search nee
 append-side-append-side-requires-3 : (t : ℕ) → append-side-lts.Need-append-side-requires-3 (claims t) (append-side-at t) append-side.Post
 append-side-append-side-requires-3 t c κs = let h = child t (c .before .before) .0 in search needs
 
-append-side-same-length-4 : (t : ℕ) → append-side-lts.Need-same-length-4 (claims t) (append-side-at t) append-side.Post
-append-side-same-length-4 t c = search needs
+append-side-same-length-5 : (t : ℕ) → append-side-lts.Need-same-length-5 (claims t) (append-side-at t) append-side.Post
+append-side-same-length-5 t c = search needs
 
-append-side-returns-4 : (t : ℕ) → append-side-lts.Need-returns-4 (claims t) (append-side-at t) append-side.Post
-append-side-returns-4 t c =
+append-side-returns-5 : (t : ℕ) → append-side-lts.Need-returns-5 (claims t) (append-side-at t) append-side.Post
+append-side-returns-5 t c =
     let u = c .before .before in
     let k = u .before .before in
     let d = k .before .before in
     let r = d .before .before in
     let h = r .before .before in
-    added-as (side-child _ _ _ _ _ (h .before .word-within .ensures) (h .class-by-head .ensures) (r .before .if1 .left) (r .rule-of .ensures) (d .before .if2 .left) (d .digit-of .ensures) (k .before .if3 .left) (k .child-at2 .ensures))
+    added-as (side-child _ _ _ _ _ _ (h .before .word-within .ensures) (h .class-by-head .ensures) (r .before .if1 .left) (r .rule-of .ensures) (d .before .if2 .left) (d .digit-of .ensures) (k .before .if3 .left) (k .child-at2 .ensures))
     (u .append-side3 .ensures)
 
 pub +append-side-spec : {M : Type 1} → statement M
@@ -197,8 +215,7 @@ pub +append-side-spec : {M : Type 1} → statement M
     (append-side-word-within-requires t)
     (append-side-cast-head t)
     (append-side-class-by-head-requires t)
-    (append-side-part-end-requires t)
-    (append-side-append-run-requires t)
+    (append-side-append-part-requires t)
     (append-side-same-length t)
     (append-side-returns t)
     (append-side-rule-of-requires t)
@@ -212,12 +229,16 @@ pub +append-side-spec : {M : Type 1} → statement M
     (append-side-same-length-2 t)
     (append-side-returns-2 t)
     (append-side-digit-of-requires t)
-    (append-side-declared-index-requires t)
-    (append-side-append-requires t)
+    (append-side-cast-append-bound t)
+    (append-side-append-bound-requires t)
     (append-side-same-length-3 t)
     (append-side-returns-3 t)
+    (append-side-declared-index-requires t)
+    (append-side-append-requires t)
+    (append-side-same-length-4 t)
+    (append-side-returns-4 t)
     (append-side-child-at-requires-2 t)
     (append-side-sub-append-side-3 t)
     (append-side-append-side-requires-3 t)
-    (append-side-same-length-4 t)
-    (append-side-returns-4 t)
+    (append-side-same-length-5 t)
+    (append-side-returns-5 t)

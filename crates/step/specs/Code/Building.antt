@@ -7,23 +7,31 @@ use lib.Dec.{eqb, ltb}
 use lib.ListN.{length, drop}
 use Rattle.term.specs.Trees.{Tree, words}
 use Rattle.term.specs.Terms.{maxDepth}
-use Rattle.types.specs.Sorts.{Sort, Context}
+use Rattle.types.specs.Sorts.{Sort, Context, inBodies}
 use Rattle.types.specs.Rules.{_⊢_∶_}
 use Rattle.declarations.specs.Declarations.{contextIn, goodDeclarations}
 use Rattle.rules.specs.Patterns.{firstIndex, secondIndex}
 use Rattle.rules.specs.Rewrite.{sortOf, holes}
 use Rattle.matcher.specs.declared.Match.{Match}
 use Rattle.matcher.specs.Matching.{startOf, Holds}
+use Rattle.shapes.specs.Bodies.{Bound}
 use Rattle.shapes.specs.Reading.{Begins}
 
--- ---- a typed part
-module _ (ds : List ℕ) where
-  abbrev pub Sorted : Tree → Type 0
-  Sorted t = (S : Sort) × (contextIn ds ⊢ t ∶ S)
+-- ---- a typed part, with such trees for the indices of the sums around it
+module _ (ds : List ℕ) (bodies : List Tree) where
+  abbrev pub around : Context
+  around = inBodies bodies (contextIn ds)
 
-  -- words that begin with one, under good declarations
-  abbrev pub HasSort : List ℕ → Type 0
-  HasSort ws = (goodDeclarations ds ≡ true) × ((t : Tree) × Begins ws maxDepth t × Sorted t)
+  abbrev pub Sorted : Tree → Type 0
+  Sorted t = (S : Sort) × (around ⊢ t ∶ S)
+
+  -- words that begin with one, under good declarations; `outer` tells the words of each index around
+  pub record HasSort (outer : ℕ → List ℕ) (ws : List ℕ) : Type 0 where
+    pub good : goodDeclarations ds ≡ true
+    pub bound : Bound ws outer 0 bodies
+    pub tree : Tree
+    pub begins : Begins ws maxDepth tree
+    pub sorted : Sorted tree
 
 -- ---- the words of a right side
 -- the first or the second index of a sort
@@ -52,9 +60,21 @@ unfolding asks
 allAsk n [] = true
 allAsk n (w ∷ ws) = asks n w && allAsk n ws
 
--- the trees that the holes hold, of words that begin with a part: all of them typed, and each is found where the match says
-pub record Caught (ds ws : List ℕ) (m : Match) (c : List Tree) : Type 0 where
+-- a word that asks for no index, and so for no type
+unfoldable pub indexless : List ℕ → Bool
+indexless [] = true
+indexless (w ∷ ws) = (ltb (w / 256) 253 || eqb (w / 256) 255) && indexless ws
+
+-- the trees that the holes hold, of words that begin with a part: each is found where the match says
+pub record Caught (ds ws : List ℕ) (m : Match) : Type 0 where
   pub good : goodDeclarations ds ≡ true
-  pub holds : Holds ws m c
-  pub begins : (k : ℕ) → k < length c → Begins (drop (startOf m k) ws) maxDepth (holes c k)
-  pub sorted : (k : ℕ) → k < length c → Sorted ds (holes c k)
+  pub bodies : List Tree
+  pub outer : ℕ → List ℕ
+  pub bound : Bound [] outer 0 bodies
+  pub trees : List Tree
+  pub holds : Holds ws m trees
+  pub begins : (k : ℕ) → k < length trees → Begins (drop (startOf m k) ws) maxDepth (holes trees k)
+
+-- and all of them are typed where the part stands
+abbrev pub AllSorted : {ds ws : List ℕ} {m : Match} → Caught ds ws m → Type 0
+AllSorted {ds} x = (k : ℕ) → k < length (x .trees) → Sorted ds (x .bodies) (holes (x .trees) k)

@@ -6,8 +6,8 @@ use Prim.Native.Nat.{ℕ}
 use lib.Dec.{eqb}
 use lib.ListN.{length}
 use Rattle.term.specs.Trees.{Tree, words}
-use Rattle.types.specs.Sorts.{Sort, Context}
-use Rattle.types.specs.Rules.{IsType, Typed}
+use Rattle.types.specs.Sorts.{Sort, IsType, Context}
+use Rattle.types.specs.Rules.{Typed}
 use Rattle.declarations.specs.Declarations.{contextIn, goodDeclarations}
 use Rattle.rules.specs.Steps.{Stepped, stepOf, Move, Sides, chosen, put, Run}
 use Rattle.step.specs.declared.run.Answer.{Answer}

@@ -1,34 +1,38 @@
 -- Where a rule is tried: a typed part of a term, under good declarations.
 use mathlib.Core.Path.{_≡_}
 use mathlib.Core.Bool.{true}
-use mathlib.Core.List.{List, _++_}
+use mathlib.Core.List.{List, [], _++_}
 use mathlib.Core.Option.{some}
 use Prim.Native.Nat.{ℕ, _≤_}
 use Rattle.term.specs.Trees.{Tree, words, Formed, depth}
 use Rattle.term.specs.Terms.{maxDepth}
 use Rattle.types.specs.Sorts.{Sort}
 use Rattle.types.specs.Rules.{_⊢_∶_}
-use Rattle.declarations.specs.Declarations.{contextIn, goodDeclarations}
+use Rattle.declarations.specs.Declarations.{goodDeclarations}
+use Rattle.shapes.specs.Bodies.{Bound, outerAt}
 use Rattle.rules.specs.Patterns.{Pattern}
-use Rattle.rules.specs.Table.{Kind, _⇒_▷_, ruleOf}
+use Rattle.rules.specs.Table.{Condition, _⇒_▷_, ruleOf}
 use Rattle.rulebook.specs.declared.Row.{Row}
 use Rattle.rulebook.specs.Code.Rows.{rowOf}
+use Rattle.step.specs.Code.Building.{around}
 
--- words from a place on, which begin with the part there
-pub record Site (ds ws : List ℕ) : Type 0 where
+-- words from a place of a term on, which begin with the part there; `bodies` are what the sums around it have for an index
+pub record Site (ds term : List ℕ) (place : ℕ) (ws : List ℕ) : Type 0 where
   pub good : goodDeclarations ds ≡ true
+  pub bodies : List Tree
+  pub bound : Bound [] (outerAt term place) 0 bodies
   pub tree : Tree
   pub formed : Formed tree
   pub shallow : depth tree ≤ maxDepth
   pub sort : Sort
-  pub typed : contextIn ds ⊢ tree ∶ sort
+  pub typed : around ds bodies ⊢ tree ∶ sort
   pub after : List ℕ
   pub whole : ws ≡ words tree ++ after
 
 -- a number of the table, with its row, that is an equation's
 pub record Equation (number : ℕ) (row : Row) : Type 0 where
-  pub kind : Kind
+  pub condition : Condition
   pub left : Pattern
   pub right : Pattern
-  pub rule : ruleOf number ≡ some (kind ⇒ left ▷ right)
+  pub rule : ruleOf number ≡ some (condition ⇒ left ▷ right)
   pub is : row ≡ rowOf number

@@ -24,9 +24,21 @@ returns-2 c =
 
 returns-3 : tie.Need-returns-3
 returns-3 c =
-    let w = c .before .number2 .ensures in
-    let n = c .before .before .number .ensures in
-    rw (← w, ← n, ne-eqb _ _ (c .if1 .left))
+    let w = c .before .before .before .number2 .ensures in
+    let n = c .before .before .before .before .number .ensures in
+    rw (← w, ← n, ne-eqb _ _ (c .before .before .if1 .left), eq-eqb _ _ (c .before .if3 .taken), le-leb _ _ (c .if4 .taken))
+
+returns-4 : tie.Need-returns-4
+returns-4 c =
+    let w = c .before .before .before .number2 .ensures in
+    let n = c .before .before .before .before .number .ensures in
+    rw (← w, ← n, ne-eqb _ _ (c .before .before .if1 .left), eq-eqb _ _ (c .before .if3 .taken), lt-leb _ _ (c .if4 .left))
+
+returns-5 : tie.Need-returns-5
+returns-5 c =
+    let w = c .before .before .number2 .ensures in
+    let n = c .before .before .before .number .ensures in
+    rw (← w, ← n, ne-eqb _ _ (c .before .if1 .left), ne-eqb _ _ (c .if3 .left))
 
 pub fits-spec : {M : Type 1} → statement M
-fits-spec = tie.close (tie.spec number-requires number-requires-2 returns returns-2 returns-3)
+fits-spec = tie.close (tie.spec number-requires number-requires-2 returns returns-2 returns-3 returns-4 returns-5)

@@ -111,8 +111,16 @@ unfolding ruleAt rules
 returns-26 c = rw (c .match .keys26)
 
 returns-27 : tie.Need-returns-27
+unfolding ruleAt rules
+returns-27 c = rw (c .match .keys27)
+
+returns-28 : tie.Need-returns-28
+unfolding ruleAt rules
+returns-28 c = rw (c .match .keys28)
+
+returns-29 : tie.Need-returns-29
 unfolding Others ruleAt rules
-returns-27 c = sym (List·getD-eq-default rules 0 (others-from 26 (c .before .args .head) (c .match .rest)))
+returns-29 c = sym (List·getD-eq-default rules 0 (others-from 28 (c .before .args .head) (c .match .rest)))
 
 pub rule-of-spec : {M : Type 1} → statement M
 rule-of-spec =
@@ -144,4 +152,6 @@ rule-of-spec =
     returns-24
     returns-25
     returns-26
-    returns-27)
+    returns-27
+    returns-28
+    returns-29)

@@ -23,7 +23,8 @@ abbrev pub line : ℕ → ℕ → ℕ → ℕ → ℕ
 line test class left right = test * 4096 + class * 256 + left * 16 + right
 
 -- the k-th line is head k's; a head without children has none. 2 and 4 multiply indices, 7, 8 and 20 are sums, 9 conjugates, 10 is delta, 12 to 15 are the zeros and the
--- identity, 16 and 17 a ket and a bra, 18 the adjoint, 19 scales, 21 is the tensor, and DOT, MULK, MULB, OUTER and MULO (11, 22 to 25) are one rule
+-- identity, 16 and 17 a ket and a bra, 18 the adjoint, 19 scales, 21 is the tensor, and DOT, MULK, MULB, OUTER and MULO (11, 22 to 25) are one rule; 27, the sum over a basis,
+-- has the sort of its body
 unfoldable pub rules : List ℕ
 rules =
     0
@@ -52,6 +53,8 @@ rules =
     ∷ line 2 0 1 4
     ∷ line 2 0 1 4
     ∷ line 2 0 1 4
+    ∷ 0
+    ∷ line 0 2 3 4
     ∷ []
 
 unfoldable pub ruleAt : ℕ → ℕ

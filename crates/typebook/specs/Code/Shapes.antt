@@ -37,9 +37,11 @@ numberOf Operator = 6
 numberOf Array = 7
 numberOf Term = 8
 
--- a child's class is the one that is wanted: the same, or any array where an array is wanted
+-- a child's class is the one that is wanted: the same, or any array where an array is wanted, and any type where a term is
 abbrev pub fitting : Class → Class → Bool
-fitting c w = cond (eqb (numberOf w) 7) (leb 4 (numberOf c) && leb (numberOf c) 6) (eqb (numberOf c) (numberOf w))
+fitting c w =
+    cond (eqb (numberOf w) 7) (leb 4 (numberOf c) && leb (numberOf c) 6)
+    (cond (eqb (numberOf w) 8) (leb 3 (numberOf c) && leb (numberOf c) 6) (eqb (numberOf c) (numberOf w)))
 
 -- ---- a shape, where a test holds
 abbrev pub given : Bool → Option Shape → Option Shape

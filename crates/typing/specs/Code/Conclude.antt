@@ -36,9 +36,13 @@ sideSize p n m = cond p (cond (eqb n 0) 0 (n + m + 1)) n
 abbrev pub noneYet : ℕ → ℕ → G.Gathered
 noneYet h top = record { first = plain; latest = plain; at = top; free = top; alike = isSum h }
 
-unfoldable pub oneMore : ℕ → List ℕ → ℕ → G.Gathered → S.Sorted → G.Gathered
-oneMore k st top g child =
-    cond (eqb k 0) (record { first = child; latest = child; at = top; free = top + child .left + child .right; alike = g .alike })
+-- the words of a record behind the first child's, under a sum over a basis
+unfoldable pub gapOf : ℕ → ℕ
+gapOf h = cond (eqb h 27) 2 0
+
+unfoldable pub oneMore : ℕ → ℕ → List ℕ → ℕ → G.Gathered → S.Sorted → G.Gathered
+oneMore h k st top g child =
+    cond (eqb k 0) (record { first = child; latest = child; at = top; free = top + child .left + child .right + gapOf h; alike = g .alike })
     (record { first = g .first; latest = child; at = g .free; free = g .free; alike = g .alike && alikeTo (shapeAt st top (g .first)) (shapeAt st (g .free) child) })
 
 -- ---- what is made of n children, in numbers, where they meet as the line asks or not

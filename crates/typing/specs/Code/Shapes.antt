@@ -35,12 +35,12 @@ Room at st = at + 126 ≤ length st
 
 -- the first and the latest of a part's children: in numbers, and on the stack
 abbrev pub Near : ℕ → G.Gathered → Type 0
-Near top g = (top ≤ 8190) × (g .at ≤ 8190) × Small (g .first) × Small (g .latest)
+Near top g = (top ≤ 8320) × (g .at ≤ 8320) × Small (g .first) × Small (g .latest)
 
 pub record Ready (top : ℕ) (g : G.Gathered) (st : List ℕ) : Type 0 where
   pub room : Room top st
   pub more : Room (g .at) st
-  pub long : length st ≤ 8190
+  pub long : length st ≤ 8320
   pub first : Small (g .first)
   pub latest : Small (g .latest)
 

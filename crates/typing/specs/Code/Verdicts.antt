@@ -2,13 +2,14 @@
 use mathlib.Core.Path.{_≡_}
 use mathlib.Core.Bool.{Bool, true, false, cond}
 use mathlib.Core.List.{List, [], _∷_}
-use mathlib.Core.Option.{Option, some}
+use mathlib.Core.Option.{Option, some, none as nothing}
 use Prim.Native.Nat.{ℕ, _+_, _*_, _/_, _%_, _≤_, _<_, min}
 use lib.Dec.{eqb, ltb}
-use lib.ListN.{length, getD}
+use lib.ListN.{length, getD, getElem?}
 use Rattle.term.specs.declared.heads.Class.the-variants.{Index, Basis, Scalar, Ket, Bra, Operator}
 use Rattle.term.specs.Parts.{parse, treeIn, part, partDepth}
-use Rattle.term.specs.Terms.{termWords}
+use Rattle.term.specs.Terms.{termWords, maxBodies}
+use Rattle.term.specs.Trees.{Tree}
 use Rattle.typing.specs.declared.sorts.Sorted as S
 use Rattle.typing.specs.declared.sorts.Outcome as C
 use Rattle.typing.specs.declared.lookup.Entry as E
@@ -16,13 +17,14 @@ use Rattle.typing.specs.declared.infer.Verdict as Answer
 use Rattle.typing.specs.declared.terms.Kind as K
 use Rattle.typing.specs.declared.terms.Kind.the-variants as Kinds
 use Rattle.typing.specs.declared.terms.Typing as A
-use Rattle.typing.specs.Answers.{refuse, answerOf}
+use Rattle.typing.specs.Answers.{refuse, strayed, answerOf}
 use Rattle.typebook.specs.Code.Shapes.{Shape, shape, shapeOf, given}
 use Rattle.typing.specs.Code.Shapes.{shapeAt, Small, Above, plain}
 use Rattle.typing.specs.Code.Conclude.{runOf}
 use Rattle.declarations.specs.Declarations.{basisAt, variableAt, basisIn, variableIn, contextIn, namesIn}
 use Rattle.types.specs.Sorts.{Sort, basis, Context}
-use Rattle.types.specs.TypeOf.{typed, untyped, typeOf}
+use Rattle.types.specs.Strays.{strayOf}
+use Rattle.types.specs.TypeOf.{indexTree, typed, untyped, typeOf}
 
 -- an untyped part, by its offset
 abbrev pub refusal : ℕ → Answer.Verdict
@@ -32,13 +34,25 @@ refusal k = record { typed = false; at = k; size = 0; depth = 0; sorted = plain 
 abbrev pub settlement : ℕ → ℕ → C.Outcome → Answer.Verdict
 settlement n d o = record { typed = o .typed; at = 0; size = n; depth = d; sorted = o .sorted }
 
--- ---- a head without children, by its word: a name as declared, or the scalar 0 or 1
-unfoldable pub leafOf : List ℕ → ℕ → Option Shape
-leafOf ds w =
+-- ---- a head without children, by its word: a name as declared, a bound basis, or the scalar 0 or 1
+-- a bound basis has the index of its sum, where that has one
+unfoldable pub indexShape : ℕ → Option Tree → Option Shape
+unfolding indexTree
+indexShape types nothing = nothing
+indexShape types (some σ) = given (indexTree types σ) (some (shapeOf (basis σ)))
+
+unfoldable pub boundShape : ℕ → ℕ → List Tree → Option Shape
+unfolding indexShape
+boundShape types a bs = given (ltb a maxBodies) (indexShape types (getElem? bs a))
+
+unfoldable pub leafOf : List ℕ → List Tree → ℕ → Option Shape
+unfolding boundShape
+leafOf ds bs w =
     cond (eqb (w / 256) 1) (given (ltb (w % 256) (getD ds 0 0)) (some (shape Index (w ∷ []) [])))
     (cond (eqb (w / 256) 3) (given (ltb (w % 256) (getD ds 1 0)) (some (shapeOf (basis (basisIn ds (w % 256))))))
     (cond (eqb (w / 256) 26) (given (ltb (w % 256) (getD ds 2 0)) (some (shapeOf (variableIn ds (w % 256)))))
-    (some (shape Scalar [] []))))
+    (cond (eqb (w / 256) 28) (boundShape (getD ds 0 0) (w % 256) bs)
+    (some (shape Scalar [] [])))))
 
 -- a variable's sort in numbers, by its kind and the lengths of its two indices
 abbrev pub sortedBy : ℕ → ℕ → ℕ → S.Sorted
@@ -69,10 +83,15 @@ entryOf ds w =
     cond (eqb (w / 256) 3) (cond (ltb (w % 256) (getD ds 1 0)) (basisEntry ds (w % 256)) (bareEntry false))
     (cond (eqb (w / 256) 26) (cond (ltb (w % 256) (getD ds 2 0)) (variableEntry ds (w % 256)) (bareEntry false)) (bareEntry true))
 
--- the words of the stack that the typing of a part of at most n words, no deeper than the budget, may take: a child's sort stays where another follows it, so at most one a level,
--- and one for two words of the term
+-- the words of the stack that the typing of a part of at most n words, no deeper than the budget, may take: a child's sort stays where another follows it, with a record of two words
+-- behind it where it is the first of a sum over a basis. So at most one a level, and one for two words of the term
 abbrev pub need : ℕ → ℕ → ℕ
-need n budget = min (63 * n + 126) (126 * budget + 126)
+need n budget = min (64 * n + 128) (128 * budget + 128)
+
+-- the context where sums over these trees are around
+unfoldable pub contextAt : List ℕ → List Tree → Context
+unfolding contextIn
+contextAt ds bs = record { types = contextIn ds .types; bases = contextIn ds .bases; variables = contextIn ds .variables; bound = bs }
 
 -- a typed part: it is whole and no deeper than the budget, and its words stand on the stack
 pub record Settled (Γ : Context) (ws : List ℕ) (budget top : ℕ) (r : Answer.Verdict) (st : List ℕ) : Type 0 where
@@ -95,10 +114,13 @@ pub record Found (Γ : Context) (ws : List ℕ) (budget top : ℕ) (r : Answer.V
   pub settled : r .typed ≡ true → Settled Γ ws budget top r st′
   pub unsettled : r .typed ≡ false → Unsettled Γ ws budget r
 
--- the answer for words that are all of them the term's, or none: the tests 8, 10 and 11
+-- the answer for words that are all of them the term's, or none: the tests 8, 13, 10 and 11
 unfoldable pub typingIn : List ℕ → List ℕ → A.Typing
-unfolding termWords namesIn partDepth typeOf contextIn treeIn answerOf refuse
-typingIn ds ws = cond (termWords (namesIn ds) ws) (answerOf (length ws) (partDepth ws 0) (typeOf (contextIn ds) 0 (treeIn (parse ws)))) (refuse 8 0)
+unfolding termWords namesIn partDepth strayOf typeOf contextIn treeIn strayed answerOf refuse
+typingIn ds ws =
+    cond (termWords (namesIn ds) ws)
+    (strayed (strayOf 0 0 (treeIn (parse ws))) (answerOf (length ws) (partDepth ws 0) (typeOf (contextIn ds) 0 (treeIn (parse ws)))))
+    (refuse 8 0)
 
 -- a kind by the number of its class
 abbrev pub kindOf : ℕ → ℕ → ℕ → K.Kind

@@ -15,7 +15,7 @@ same-length : tie.Need-same-length
 same-length c = search needs
 
 returns : tie.Need-returns
-returns c = added-as (second-read _ _ (c .before .before .before .before .before .before .before .before .before .before .pre) _ (c .before .before .before .before .before .before .class-of .ensures) _ (c .before .before .before .before .before .if1 .taken) (c .before .before .before .before .if2 .taken)) (c .before .before .append-side .ensures)
+returns c = λ bodies h. added-as (second-read _ bodies _ _ h _ (c .before .before .before .before .before .before .class-of .ensures) _ (c .before .before .before .before .before .if1 .taken) (c .before .before .before .before .if2 .taken)) (c .before .before .append-side .ensures)
 
 append-word-requires : tie.Need-append-word-requires
 append-word-requires c κs = search needs
@@ -24,7 +24,7 @@ same-length-2 : tie.Need-same-length-2
 same-length-2 c = search needs
 
 returns-2 : tie.Need-returns-2
-returns-2 c = added-as (no-second _ _ (c .before .before .before .before .before .before .before .before .before .before .pre) _ (c .before .before .before .before .before .before .class-of .ensures) _ (c .before .before .before .before .before .if1 .taken) (c .before .before .before .before .if2 .left)) (appended (c .before .before .append-word .ensures))
+returns-2 c = λ bodies h. added-as (no-second _ bodies _ _ h _ (c .before .before .before .before .before .before .class-of .ensures) _ (c .before .before .before .before .before .if1 .taken) (c .before .before .before .before .if2 .left)) (appended (c .before .before .append-word .ensures))
 
 append-word-requires-2 : tie.Need-append-word-requires-2
 append-word-requires-2 c κs = search needs
@@ -33,7 +33,7 @@ same-length-3 : tie.Need-same-length-3
 same-length-3 c = search needs
 
 returns-3 : tie.Need-returns-3
-returns-3 c = added-as (no-first _ _ (c .before .before .before .before .before .before .before .before .before .before .pre) _ (c .before .before .before .before .before .before .class-of .ensures) _ (c .before .before .before .before .before .if1 .left) (c .before .before .before .before .if3 .taken)) (appended (c .before .before .append-word2 .ensures))
+returns-3 c = λ bodies h. added-as (no-first _ bodies _ _ h _ (c .before .before .before .before .before .before .class-of .ensures) _ (c .before .before .before .before .before .if1 .left) (c .before .before .before .before .if3 .taken)) (appended (c .before .before .append-word2 .ensures))
 
 append-side-requires-2 : tie.Need-append-side-requires-2
 append-side-requires-2 c κs = search needs
@@ -42,7 +42,7 @@ same-length-4 : tie.Need-same-length-4
 same-length-4 c = search needs
 
 returns-4 : tie.Need-returns-4
-returns-4 c = added-as (first-read _ _ (c .before .before .before .before .before .before .before .before .before .before .pre) _ (c .before .before .before .before .before .before .class-of .ensures) _ (c .before .before .before .before .before .if1 .left) (c .before .before .before .before .if3 .left)) (c .before .before .append-side2 .ensures)
+returns-4 c = λ bodies h. added-as (first-read _ bodies _ _ h _ (c .before .before .before .before .before .before .class-of .ensures) _ (c .before .before .before .before .before .if1 .left) (c .before .before .before .before .if3 .left)) (c .before .before .append-side2 .ensures)
 
 pub append-index-spec : {M : Type 1} → statement M
 append-index-spec =

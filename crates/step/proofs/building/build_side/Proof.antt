@@ -1,6 +1,7 @@
 -- The invariant: the pieces of the words that were passed are written. The measure is how many are left.
 use mathlib.Core.Path.{_≡_, refl, _∙_, ap}
-use mathlib.Core.List.{List}
+use mathlib.Core.Logic.{_⊎_}
+use mathlib.Core.Bool.{true}
 use Prim.Native.Nat.{_-_, _≤_}
 use native.Mathlib.Omega.{arith}
 use borrow.Author.Needs.{needs}
@@ -8,23 +9,23 @@ use lib.ListN.{length, take}
 use lib.Seq.{take-all}
 use Rattle.words.specs.Words.{Added}
 use Rattle.words.proofs.Runs.{added-both, none-added, added-as}
-use Rattle.term.specs.Trees.{Tree}
-use Rattle.declarations.specs.Declarations.{contextIn}
-use Rattle.step.specs.Code.Building.{pieces, Caught}
-use Rattle.step.proofs.Pieces.{side-asks, side-more}
+use Rattle.shapes.specs.Bodies.{outerAt}
+use Rattle.step.specs.Code.Building.{around, pieces, indexless, Caught, AllSorted}
+use Rattle.step.proofs.Pieces.{side-asks, side-more, side-typed}
 use Rattle.step.proofs.building.build_side.Statement.{statement}
 use Rattle.step.proofs.building.build_side.Tie as tie
 
 abbrev Inv-loop : tie.InvT-loop
-Inv-loop ds ws m side out₀ at done₀ k₀ out done k =
-    (k ≤ length side) × (length out ≡ length out₀) × ((c : List Tree) → Caught ds ws m c → Added out₀ at (pieces (contextIn ds) c (take k side)) out done)
+Inv-loop ds term place ws m side out₀ at done₀ k₀ out done k =
+    (k ≤ length side) × (length out ≡ length out₀)
+    × ((x : Caught ds ws m) → x .outer ≡ outerAt term place → (indexless side ≡ true) ⊎ AllSorted x → Added out₀ at (pieces (around ds (x .bodies)) (x .trees) (take k side)) out done)
 
 abbrev μ-loop : tie.MeasureT-loop
-μ-loop ds ws m side out₀ at done₀ k₀ out done k = length side - k
+μ-loop ds term place ws m side out₀ at done₀ k₀ out done k = length side - k
 
 loop-holds : tie.Need-loop-holds Inv-loop μ-loop
 unfolding pieces
-loop-holds c = (omega arith, refl, λ d h. none-added _ _ (c .before .before .before .before .pre .1))
+loop-holds c = (omega arith, refl, λ x o t. none-added _ _ (c .before .before .before .before .before .pre .1))
 
 mul-build-word : tie.Need-mul-build-word Inv-loop μ-loop
 mul-build-word c = search needs
@@ -33,7 +34,10 @@ shared-slice-read-build-word : tie.Need-shared-slice-read-build-word Inv-loop μ
 shared-slice-read-build-word c = search needs
 
 build-word-requires : tie.Need-build-word-requires Inv-loop μ-loop
-build-word-requires c κs = (c .before .before .before .before .before .before .before .before .pre .0, side-asks _ _ (c .before .before .loop-test .taken) _ (c .before .before .before .before .before .before .before .before .pre .2))
+build-word-requires c κs =
+    let pre = c .before .before .before .before .before .before .before .before .before .pre in
+    let more = c .before .before .loop-test .taken in
+    ((pre .0 .0, pre .0 .1, side-typed _ _ more (pre .0 .2)), side-asks _ _ more _ (pre .2))
 
 add-k : tie.Need-add-k Inv-loop μ-loop
 add-k c = search needs
@@ -43,12 +47,14 @@ loop-less c = search needs
 
 loop-again : tie.Need-loop-again Inv-loop μ-loop
 loop-again c =
-    let start = c .before .before .before .before .before .before .before .before .before .before .before in
+    let start = c .before .before .before .before .before .before .before .before .before .before .before .before in
     let loop = c .before .before .before .before .before .before .loop in
-    let written = c .before .before .build-word .ensures in (
+    let more = c .before .before .before .before .before .loop-test .taken in
+    let written = c .before .before .build-word .ensures in
+    let first = start .pre .0 in (
       omega arith,
-      written (start .pre .0 .0) (start .pre .0 .1) .size ∙ loop .inv .1,
-      λ d h. added-as (side-more _ _ (c .before .before .before .before .before .loop-test .taken) (contextIn (start .args .ds .now)) d) (added-both (loop .inv .2 d h) (written d h)),
+      written (first .0) (first .1) (side-typed _ _ more (first .2)) .size ∙ loop .inv .1,
+      λ x o t. added-as (side-more _ _ more (around (start .args .ds .now) (x .bodies)) (x .trees)) (added-both (loop .inv .2 x o t) (written x o (side-typed _ _ more t))),
     )
 
 same-length : tie.Need-same-length Inv-loop μ-loop
@@ -56,9 +62,9 @@ same-length c = search needs
 
 returns : tie.Need-returns Inv-loop μ-loop
 returns c =
-    let args = c .before .before .before .before .before .before .args in
+    let args = c .before .before .before .before .before .before .before .args in
     let all = take-all (c .before .loop .k) (args .side .now) (c .loop-test .left) in
-    λ d h. added-as (ap (pieces (contextIn (args .ds .now)) d) all) (c .before .loop .inv .2 d h)
+    λ x o t. added-as (ap (pieces (around (args .ds .now) (x .bodies)) (x .trees)) all) (c .before .loop .inv .2 x o t)
 
 pub build-side-spec : {M : Type 1} → statement M
 build-side-spec =

@@ -7,7 +7,7 @@ use Rattle.step.proofs.rewriting.rewrite_part.Statement.{statement}
 use Rattle.step.proofs.rewriting.rewrite_part.Tie as tie
 
 equate-requires : tie.Need-equate-requires
-equate-requires c κs = let pre = c .before .before .before .before .before .before .pre in (pre .0, equation-of _ _ (pre .1) (c .before .if1 .taken))
+equate-requires c κs = let pre = c .before .before .before .before .before .before .before .pre in (pre .0, equation-of _ _ (pre .1) (c .before .if1 .taken))
 
 same-length : tie.Need-same-length
 same-length c = search needs
@@ -16,7 +16,7 @@ returns : tie.Need-returns
 returns c =
     let call = c .before .before .before .before in
     let taken = call .before .before in
-    (λ s k e. equates _ _ (taken .before .before .before .before .before .pre .1) _ k e _ _ _ _ _ _ _ (taken .if1 .taken) (λ q. call .equate .ensures s q), λ z. absurd (c .if2 .taken z))
+    (λ s k e. equates _ _ (taken .before .before .before .before .before .before .pre .1) _ k e _ _ _ _ _ _ _ (taken .if1 .taken) (λ q. call .equate .ensures s q), λ z. absurd (c .if2 .taken z))
 
 part-at-requires : tie.Need-part-at-requires
 part-at-requires c κs = search needs
@@ -29,9 +29,9 @@ returns-2 c =
     let call = c .before .before .before .before .before .before in
     let taken = call .before .before in
     let found = c .part-at .ensures in (
-      λ s k e. equates _ _ (taken .before .before .before .before .before .pre .1) _ k e _ _ _ _ _ _ _ (taken .if1 .taken) (λ q. call .equate .ensures s q),
+      λ s k e. equates _ _ (taken .before .before .before .before .before .before .pre .1) _ k e _ _ _ _ _ _ _ (taken .if1 .taken) (λ q. call .equate .ensures s q),
       λ z.
-          let may = equation-deepens _ _ (taken .before .before .before .before .before .pre .1) (taken .if1 .taken) in
+          let may = equation-deepens _ _ (taken .before .before .before .before .before .before .pre .1) (taken .if1 .taken) in
           record { size = ap length (found .same); deepens = sym may; depth = rw may (found .depth) },
     )
 
@@ -45,7 +45,7 @@ returns-3 : tie.Need-returns-3
 returns-3 c =
     let call = c .before .before in
     let other = call .before .before in
-    (λ s k e. at-site _ _ (other .before .before .before .before .before .pre .1) _ k e _ _ _ _ _ _ s (other .if1 .left) (call .rewrite-family .ensures .0), λ z. call .rewrite-family .ensures .1)
+    (λ s k e. at-site _ _ (other .before .before .before .before .before .before .pre .1) _ k e _ _ _ _ _ _ s (other .if1 .left) (call .rewrite-family .ensures .0), λ z. call .rewrite-family .ensures .1)
 
 pub rewrite-part-spec : {M : Type 1} → statement M
 rewrite-part-spec =

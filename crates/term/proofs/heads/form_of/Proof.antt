@@ -27,7 +27,7 @@ shr-result-2 c = search needs
 
 returns-2 : tie.Need-returns-2
 unfolding allUpTo lineAt
-returns-2 c = form-at _ 16 11 refl _ (c .before .before .args .head) (omega arith) (omega arith)
+returns-2 c = form-at _ 16 13 refl _ (c .before .before .args .head) (omega arith) (omega arith)
 
 returns-3 : tie.Need-returns-3
 returns-3 c = sym (ap (λ x. x / 4096) (line-past (c .before .before .args .head) (omega arith)))

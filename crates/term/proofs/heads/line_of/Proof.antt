@@ -115,8 +115,16 @@ unfolding lineAt
 returns-27 c = rw (c .match .keys27)
 
 returns-28 : tie.Need-returns-28
+unfolding lineAt
+returns-28 c = rw (c .match .keys28)
+
+returns-29 : tie.Need-returns-29
+unfolding lineAt
+returns-29 c = rw (c .match .keys29)
+
+returns-30 : tie.Need-returns-30
 unfolding Others
-returns-28 c = sym (line-past (c .before .args .head) (others-from 27 (c .before .args .head) (c .match .rest)))
+returns-30 c = sym (line-past (c .before .args .head) (others-from 29 (c .before .args .head) (c .match .rest)))
 
 pub line-of-spec : {M : Type 1} → statement M
 line-of-spec =
@@ -149,4 +157,6 @@ line-of-spec =
     returns-25
     returns-26
     returns-27
-    returns-28)
+    returns-28
+    returns-29
+    returns-30)

@@ -1,5 +1,5 @@
 -- The measure of the recursion is the budget. The loop's invariant: the children passed so far have sorts, whose numbers are gathered, and the words of the first and the latest
--- stand on the stack (`Walked`); its measure is how many are still to come.
+-- stand on the stack (`Walked`), whatever trees the sums around it are over; its measure is how many are still to come.
 use mathlib.Core.Path.{_≡_, sym, _∙_, ap}
 use Prim.Native.Nat.{ℕ, _-_, _/_, _≤_, _<_}
 use native.Mathlib.Omega.{arith}
@@ -7,18 +7,22 @@ use borrow.Author.Needs.{needs}
 use borrow.Author.Tests.{not-true, not-false}
 use borrow.Fn.Kinds.{In}
 use borrow.Fn.PlainCycle.{Measures, is, falls, and}
-use lib.ListN.{length, take, drop, length-drop}
+use lib.ListN.{length, take, drop, getD, length-drop}
 use Rattle.words.proofs.Runs.{to-end}
 use Rattle.term.proofs.Scan.{children-few}
-use Rattle.declarations.specs.Declarations.{contextIn}
-use Rattle.typing.proofs.Passing.{found-none, no-head, no-budget, found-child}
-use Rattle.typing.proofs.Walked.{Walked, leaf-found, walked-none, walked-more, walked-all, free-at, ready, child-inside}
+use Rattle.typing.specs.Code.Chains.{Held}
+use Rattle.typing.specs.Code.Verdicts.{contextAt}
+use Rattle.typing.proofs.Binding.{bodies-at, chain-low}
+use Rattle.typing.proofs.Passing.{found-none, no-head, no-budget}
+use Rattle.typing.proofs.Walked.{Walked, leaf-found, walked-none, entering, within-few, within-long, child-found, child-long, walked-on, walked-fails, walked-ninth, walked-all, free-at, ready, child-inside}
 use Rattle.typing.proofs.infer.type_part.Reads as type-part
 use Rattle.typing.proofs.infer.type_part.Kinds as type-part-kinds
 use Rattle.typing.proofs.infer.+type_part.Lts-type_part as type-part-lts
 use Rattle.words.proofs.word_at.Reads as word-at-reads
 use Rattle.term.proofs.heads.arity_of.Reads as arity-of-reads
 use Rattle.term.proofs.parts.larger.Reads as larger-reads
+use Rattle.typing.proofs.bodies.enter.Reads as enter-reads
+use Rattle.typing.proofs.bodies.is_ninth.Reads as is-ninth-reads
 use Rattle.typing.proofs.gathering.gather.Reads as gather-reads
 use Rattle.typing.proofs.gathering.none_yet.Reads as none-yet-reads
 use Rattle.typing.proofs.infer.conclude_leaf.Reads as conclude-leaf-reads
@@ -29,7 +33,7 @@ use Rattle.typing.proofs.infer.+type_part.{statement}
 use Rattle.typing.proofs.infer.+type_part.Tie.{close}
 
 abbrev μ-type-part : Measures 3 type-part-kinds.ps ℕ
-μ-type-part κs a = a .1 .1 .1 .1 .0
+μ-type-part κs a = a .1 .1 .1 .1 .1 .0
 
 abbrev type-part-at : ℕ → In 3 type-part-kinds.ps
 type-part-at t = and 3 type-part-kinds.ps (is 3 type-part-kinds.ps μ-type-part t) type-part.Pre
@@ -52,27 +56,32 @@ claims t = (
   settled-reads.Learnt,
   none-yet-reads.Asked,
   none-yet-reads.Learnt,
+  enter-reads.Asked,
+  enter-reads.Learnt,
   type-part-below t,
   type-part.Post,
   gather-reads.Asked,
   gather-reads.Learnt,
   larger-reads.Asked,
   larger-reads.Learnt,
+  is-ninth-reads.Asked,
+  is-ninth-reads.Learnt,
   conclude-reads.Asked,
   conclude-reads.Learnt,
 )
 
 abbrev type-part-Inv-loop : type-part-lts.InvT-loop
-type-part-Inv-loop ds ws stack₀ top budget word n head g₀ deepest₀ next₀ k₀ stack g deepest next k = (k ≤ n) × Walked (contextIn ds) ws budget top head next k deepest g stack₀ stack
+type-part-Inv-loop ds ws stack₀ top around budget word n head g₀ deepest₀ next₀ k₀ stack g deepest next k =
+    (k ≤ n) × ((x : Held (getD ds 0 0) stack₀ top around) → Walked (contextAt ds (x .trees)) ws budget top head next k deepest g stack₀ stack)
 
 abbrev type-part-μ-loop : type-part-lts.MeasureT-loop
-type-part-μ-loop ds ws stack₀ top budget word n head g₀ deepest₀ next₀ k₀ stack g deepest next k = n - k
+type-part-μ-loop ds ws stack₀ top around budget word n head g₀ deepest₀ next₀ k₀ stack g deepest next k = n - k
 
 type-part-refused-requires : (t : ℕ) → type-part-lts.Need-refused-requires (claims t) (type-part-at t) type-part.Post type-part-Inv-loop type-part-μ-loop
 type-part-refused-requires t c κs = search needs
 
 type-part-returns : (t : ℕ) → type-part-lts.Need-returns (claims t) (type-part-at t) type-part.Post type-part-Inv-loop type-part-μ-loop
-type-part-returns t c = found-none (c .refused .ensures) (λ h s. no-budget _ (c .before .if1 .taken) h s)
+type-part-returns t c = λ x. found-none (c .refused .ensures) (λ h s. no-budget _ (c .before .if1 .taken) h s)
 
 type-part-word-at-requires : (t : ℕ) → type-part-lts.Need-word-at-requires (claims t) (type-part-at t) type-part.Post type-part-Inv-loop type-part-μ-loop
 type-part-word-at-requires t c κs = search needs
@@ -90,14 +99,13 @@ type-part-refused-requires-2 : (t : ℕ) → type-part-lts.Need-refused-requires
 type-part-refused-requires-2 t c κs = search needs
 
 type-part-returns-2 : (t : ℕ) → type-part-lts.Need-returns-2 (claims t) (type-part-at t) type-part.Post type-part-Inv-loop type-part-μ-loop
-type-part-returns-2 t c = found-none (c .refused2 .ensures) (λ h s. no-head _ (rw (c .before .before .before .before .word-at .ensures) at (sym (c .before .before .before .arity-of .ensures) ∙ c .before .enum-told .given .1)) h)
+type-part-returns-2 t c = λ x. found-none (c .refused2 .ensures) (λ h s. no-head _ (rw (c .before .before .before .before .word-at .ensures) at (sym (c .before .before .before .arity-of .ensures) ∙ c .before .enum-told .given .1)) h)
 
 type-part-conclude-leaf-requires : (t : ℕ) → type-part-lts.Need-conclude-leaf-requires (claims t) (type-part-at t) type-part.Post type-part-Inv-loop type-part-μ-loop
 type-part-conclude-leaf-requires t c κs =
     let start = c .before .before .before .before .before .before .before .before .before .before .before in
     let r = start .pre .1 .1 in
-    let b = c .before .before .before .before .before .before .before .if1 .left in
-    (start .pre .1 .0, omega arith)
+    (start .pre .1 .0, omega arith, start .pre .1 .2, start .pre .1 .4)
 
 type-part-settled-requires : (t : ℕ) → type-part-lts.Need-settled-requires (claims t) (type-part-at t) type-part.Post type-part-Inv-loop type-part-μ-loop
 type-part-settled-requires t c κs = search needs
@@ -108,8 +116,8 @@ type-part-same-length t c = search needs
 type-part-returns-3 : (t : ℕ) → type-part-lts.Need-returns-3 (claims t) (type-part-at t) type-part.Post type-part-Inv-loop type-part-μ-loop
 type-part-returns-3 t c =
     let told = c .before .before .before .before .before .before in
-    let b = told .before .before .before .before .before .if1 .left in
-    leaf-found (told .before .before .before .before .before .before .before .before .before .args .ds .now) (rw (told .before .before .before .before .word-at .ensures) at (sym (told .before .before .before .arity-of .ensures) ∙ told .before .n .given .1)) (c .before .before .before .before .before .if2 .taken) (omega arith) (rw (told .before .before .before .before .word-at .ensures) at (c .before .before .before .conclude-leaf .ensures)) (c .settled .ensures)
+    let z = told .before .before .before .before .before .if1 .left in
+    λ x. leaf-found _ (x .trees) (rw (told .before .before .before .before .word-at .ensures) at (sym (told .before .before .before .arity-of .ensures) ∙ told .before .n .given .1)) (c .before .before .before .before .before .if2 .taken) (omega arith) (rw (told .before .before .before .before .word-at .ensures) at (c .before .before .before .conclude-leaf .ensures x)) (c .settled .ensures)
 
 type-part-cast-head : (t : ℕ) → type-part-lts.Need-cast-head (claims t) (type-part-at t) type-part.Post type-part-Inv-loop type-part-μ-loop
 type-part-cast-head t c = search needs
@@ -120,31 +128,62 @@ type-part-none-yet-requires t c κs = search needs
 type-part-loop-holds : (t : ℕ) → type-part-lts.Need-loop-holds (claims t) (type-part-at t) type-part.Post type-part-Inv-loop type-part-μ-loop
 type-part-loop-holds t c =
     let told = c .before .before in
-    let b = told .before .before .before .before .before .if1 .left in
-    (omega arith, walked-none (rw (told .before .before .before .before .word-at .ensures) at (sym (told .before .before .before .arity-of .ensures) ∙ told .before .n .given .1)) (omega arith) (c .none-yet .ensures))
+    let z = told .before .before .before .before .before .if1 .left in
+    (omega arith, λ x. walked-none (rw (told .before .before .before .before .word-at .ensures) at (sym (told .before .before .before .arity-of .ensures) ∙ told .before .n .given .1)) (omega arith) (c .none-yet .ensures))
+
+type-part-enter-requires : (t : ℕ) → type-part-lts.Need-enter-requires (claims t) (type-part-at t) type-part.Post type-part-Inv-loop type-part-μ-loop
+type-part-enter-requires t c κs =
+    let at = c .before .before .before in
+    let start = at .before .before .before .before .before .before .before .before .before .before .before .before in
+    let x = start .pre .1 .4 in
+    let w = at .loop .inv .1 x in
+    let r = start .pre .1 .1 in
+    let l = w .kept .long in
+    let m = start .pre .1 .2 in
+    let u = start .pre .1 .3 in
+    (omega arith, omega arith, free-at w .small, omega (arith, chain-low (x .chain)), omega arith)
 
 type-part-mul-type-part : (t : ℕ) → type-part-lts.Need-mul-type-part (claims t) (type-part-at t) type-part.Post type-part-Inv-loop type-part-μ-loop
-type-part-mul-type-part t c = search needs
+type-part-mul-type-part t c =
+    let at = c .before .before .before .before .before .before in
+    let start = at .before .before .before .before .before .before .before .before .before .before .before .before in
+    let i = at .loop .inv .1 (start .pre .1 .4) .inside in
+    search needs
 
 type-part-sub-type-part : (t : ℕ) → type-part-lts.Need-sub-type-part (claims t) (type-part-at t) type-part.Post type-part-Inv-loop type-part-μ-loop
-type-part-sub-type-part t c = search needs
+type-part-sub-type-part t c =
+    let at = c .before .before .before .before .before .before in
+    let start = at .before .before .before .before .before .before .before .before .before .before .before .before in
+    let i = at .loop .inv .1 (start .pre .1 .4) .inside in
+    search needs
 
 type-part-part-type-part-start : (t : ℕ) → type-part-lts.Need-part-type-part-start (claims t) (type-part-at t) type-part.Post type-part-Inv-loop type-part-μ-loop
-type-part-part-type-part-start t c = search needs
+type-part-part-type-part-start t c =
+    let at = c .before .before .before .before .before .before in
+    let start = at .before .before .before .before .before .before .before .before .before .before .before .before in
+    let i = at .loop .inv .1 (start .pre .1 .4) .inside in
+    search needs
 
 type-part-part-type-part-end : (t : ℕ) → type-part-lts.Need-part-type-part-end (claims t) (type-part-at t) type-part.Post type-part-Inv-loop type-part-μ-loop
-type-part-part-type-part-end t c = search needs
+type-part-part-type-part-end t c =
+    let at = c .before .before .before .before .before .before in
+    let start = at .before .before .before .before .before .before .before .before .before .before .before .before in
+    let i = at .loop .inv .1 (start .pre .1 .4) .inside in
+    search needs
 
 type-part-sub-type-part-2 : (t : ℕ) → type-part-lts.Need-sub-type-part-2 (claims t) (type-part-at t) type-part.Post type-part-Inv-loop type-part-μ-loop
 type-part-sub-type-part-2 t c = search needs
 
 type-part-type-part-requires : (t : ℕ) → type-part-lts.Need-type-part-requires (claims t) (type-part-at t) type-part.Post type-part-Inv-loop type-part-μ-loop
 type-part-type-part-requires t c κs =
-    let at = c .before .before .before in
+    let at = c .before .before .before .before .before .before .before .before in
     let start = at .before .before .before .before .before .before .before .before .before .before .before .before in
-    let w = at .loop .inv .1 in
+    let x = start .pre .1 .4 in
+    let w = at .loop .inv .1 x in
+    let e = entering _ (start .pre .1 .0) x w (start .pre .1 .1) (c .before .before .before .before .enter .ensures .0) (c .before .before .before .before .enter .ensures .1) in
     let f = free-at w .upTo in
-    let l = w .kept .long in
+    let l = within-long _ (start .pre .1 .0) x w (start .pre .1 .1) (c .before .before .before .before .enter .ensures .0) (c .before .before .before .before .enter .ensures .1) in
+    let more = within-few _ (start .pre .1 .0) x w (start .pre .1 .1) (c .before .before .before .before .enter .ensures .0) (c .before .before .before .before .enter .ensures .1) in
     let r = start .pre .1 .1 in
     let v = start .pre .1 .2 in
     let m = start .pre .1 .3 in
@@ -153,39 +192,44 @@ type-part-type-part-requires t c κs =
     let near = w .near in
     let i = w .inside in
     let d : length (start .args .ws .now) - at .loop .next ≡ length (take (length (start .args .ws .now) - at .loop .next) (drop (at .loop .next) (start .args .ws .now))) = sym (ap length (to-end (start .args .ws .now) (at .loop .next)) ∙ length-drop (at .loop .next) (start .args .ws .now)) in
-    (omega arith, (start .pre .1 .0, rw (← d) (omega arith), omega arith, omega arith))
+    (omega arith, (start .pre .1 .0, rw (← d) (omega arith), omega arith, omega arith, e .held))
 
 type-part-add-refused : (t : ℕ) → type-part-lts.Need-add-refused (claims t) (type-part-at t) type-part.Post type-part-Inv-loop type-part-μ-loop
 type-part-add-refused t c =
-    let at = c .before .before .before .before .before .before .before .before .before in
+    let at = c .before .before .before .before .before .before .before .before .before .before .before .before .before .before in
     let start = at .before .before .before .before .before .before .before .before .before .before .before .before in
-    let f = rw (to-end (start .args .ws .now) (at .loop .next)) at (c .before .before .before .before .before .type-part .ensures) in
-    omega (arith, start .good .1 .0, length-drop (at .loop .next) (start .args .ws .now), f .bound, at .loop .inv .1 .inside)
+    let x = start .pre .1 .4 in
+    let w = at .loop .inv .1 x in
+    let f = child-found _ (start .pre .1 .0) x w (start .pre .1 .1) (c .before .before .before .before .before .before .before .before .before .before .enter .ensures .0) (c .before .before .before .before .before .before .before .before .before .before .enter .ensures .1) (rw (to-end (start .args .ws .now) (at .loop .next)) at (c .before .before .before .before .before .type-part .ensures)) in
+    omega (arith, start .good .1 .0, length-drop (at .loop .next) (start .args .ws .now), f .bound, w .inside)
 
 type-part-refused-requires-3 : (t : ℕ) → type-part-lts.Need-refused-requires-3 (claims t) (type-part-at t) type-part.Post type-part-Inv-loop type-part-μ-loop
 type-part-refused-requires-3 t c κs = search needs
 
 type-part-same-length-2 : (t : ℕ) → type-part-lts.Need-same-length-2 (claims t) (type-part-at t) type-part.Post type-part-Inv-loop type-part-μ-loop
-type-part-same-length-2 t c = c .before .before .before .before .before .before .type-part .ensures .kept .long ∙ c .before .before .before .before .before .before .before .before .before .before .loop .inv .1 .kept .long
+type-part-same-length-2 t c =
+    let at = c .before .before .before .before .before .before .before .before .before .before .before .before .before .before .before in
+    let start = at .before .before .before .before .before .before .before .before .before .before .before .before in
+    let x = start .pre .1 .4 in
+    let w = at .loop .inv .1 x in
+    child-long _ (start .pre .1 .0) x w (start .pre .1 .1) (c .before .before .before .before .before .before .before .before .before .before .before .enter .ensures .0) (c .before .before .before .before .before .before .before .before .before .before .before .enter .ensures .1) (rw (to-end (start .args .ws .now) (at .loop .next)) at (c .before .before .before .before .before .before .type-part .ensures))
 
 type-part-returns-4 : (t : ℕ) → type-part-lts.Need-returns-4 (claims t) (type-part-at t) type-part.Post type-part-Inv-loop type-part-μ-loop
 type-part-returns-4 t c =
-    let at = c .before .before .before .before .before .before .before .before .before .before in
+    let at = c .before .before .before .before .before .before .before .before .before .before .before .before .before .before .before in
     let start = at .before .before .before .before .before .before .before .before .before .before .before .before in
-    let f = rw (to-end (start .args .ws .now) (at .loop .next)) at (c .before .before .before .before .before .before .type-part .ensures) in
-    let w = at .loop .inv .1 in
-    found-child (w .passed) (rw (at .before .before .before .before .before .before .before .word-at .ensures) at (sym (at .before .before .before .before .before .before .arity-of .ensures) ∙ at .before .before .before .before .n .given .1)) (c .before .before .before .before .before .before .before .before .before .loop-test .taken) (w .inside) _ (w .kept) (free-at w .from) f (not-true _ (c .before .before .if3 .taken)) (c .refused3 .ensures)
+    λ x. walked-fails _ (start .pre .1 .0) x (at .loop .inv .1 x) (start .pre .1 .1) (c .before .before .before .before .before .before .before .before .before .before .before .enter .ensures .0) (c .before .before .before .before .before .before .before .before .before .before .before .enter .ensures .1) (rw (to-end (start .args .ws .now) (at .loop .next)) at (c .before .before .before .before .before .before .type-part .ensures)) (ap (λ (w : ℕ). w / 256) (at .before .before .before .before .before .before .before .word-at .ensures)) (rw (at .before .before .before .before .before .before .before .word-at .ensures) at (sym (at .before .before .before .before .before .before .arity-of .ensures) ∙ at .before .before .before .before .n .given .1)) (c .before .before .before .before .before .before .before .before .before .before .before .before .before .before .loop-test .taken) (not-true _ (c .before .before .if3 .taken)) (c .refused3 .ensures)
 
 type-part-gather-requires : (t : ℕ) → type-part-lts.Need-gather-requires (claims t) (type-part-at t) type-part.Post type-part-Inv-loop type-part-μ-loop
 type-part-gather-requires t c κs =
-    let at = c .before .before .before .before .before .before .before .before .before .before in
+    let at = c .before .before .before .before .before .before .before .before .before .before .before .before .before .before .before in
     let start = at .before .before .before .before .before .before .before .before .before .before .before .before in
-    let f = rw (to-end (start .args .ws .now) (at .loop .next)) at (c .before .before .before .before .before .before .type-part .ensures) in
-    let w = at .loop .inv .1 in
+    let x = start .pre .1 .4 in
+    let w = at .loop .inv .1 x in
+    let f = child-found _ (start .pre .1 .0) x w (start .pre .1 .1) (c .before .before .before .before .before .before .before .before .before .before .before .enter .ensures .0) (c .before .before .before .before .before .before .before .before .before .before .before .enter .ensures .1) (rw (to-end (start .args .ws .now) (at .loop .next)) at (c .before .before .before .before .before .before .type-part .ensures)) in
+    let l = child-long _ (start .pre .1 .0) x w (start .pre .1 .1) (c .before .before .before .before .before .before .before .before .before .before .before .enter .ensures .0) (c .before .before .before .before .before .before .before .before .before .before .before .enter .ensures .1) (rw (to-end (start .args .ws .now) (at .loop .next)) at (c .before .before .before .before .before .before .type-part .ensures)) in
     let r = start .pre .1 .1 in
     let u = free-at w .upTo in
-    let l = w .kept .long in
-    let m = f .kept .long in
     let z = at .before .before .before .before .before .before .before .before .if1 .left in
     let near = w .near in
     let i = w .inside in
@@ -196,42 +240,70 @@ type-part-larger-requires t c κs = search needs
 
 type-part-add-next : (t : ℕ) → type-part-lts.Need-add-next (claims t) (type-part-at t) type-part.Post type-part-Inv-loop type-part-μ-loop
 type-part-add-next t c =
-    let at = c .before .before .before .before .before .before .before .before .before .before .before .before .before in
+    let at = c .before .before .before .before .before .before .before .before .before .before .before .before .before .before .before .before .before .before in
     let start = at .before .before .before .before .before .before .before .before .before .before .before .before in
-    let f = rw (to-end (start .args .ws .now) (at .loop .next)) at (c .before .before .before .before .before .before .before .before .before .type-part .ensures) in
-    omega (arith, start .good .1 .0, child-inside (at .loop .inv .1) (f .settled (not-false _ (c .before .before .before .before .before .if3 .left))))
+    let x = start .pre .1 .4 in
+    let w = at .loop .inv .1 x in
+    let f = child-found _ (start .pre .1 .0) x w (start .pre .1 .1) (c .before .before .before .before .before .before .before .before .before .before .before .before .before .before .enter .ensures .0) (c .before .before .before .before .before .before .before .before .before .before .before .before .before .before .enter .ensures .1) (rw (to-end (start .args .ws .now) (at .loop .next)) at (c .before .before .before .before .before .before .before .before .before .type-part .ensures)) in
+    omega (arith, start .good .1 .0, child-inside w (f .settled (not-false _ (c .before .before .before .before .before .if3 .left))))
 
 type-part-add-k : (t : ℕ) → type-part-lts.Need-add-k (claims t) (type-part-at t) type-part.Post type-part-Inv-loop type-part-μ-loop
 type-part-add-k t c =
-    let at = c .before .before .before .before .before .before .before .before .before .before .before .before .before in
+    let at = c .before .before .before .before .before .before .before .before .before .before .before .before .before .before .before .before .before .before in
+    let start = at .before .before .before .before .before .before .before .before .before .before .before .before in
     omega (arith, children-few _ _ (rw (at .before .before .before .before .before .before .before .word-at .ensures) at (sym (at .before .before .before .before .before .before .arity-of .ensures) ∙ at .before .before .before .before .n .given .1)))
 
 type-part-loop-less : (t : ℕ) → type-part-lts.Need-loop-less (claims t) (type-part-at t) type-part.Post type-part-Inv-loop type-part-μ-loop
-type-part-loop-less t c = search needs
+type-part-loop-less t c = let u = c .before .before .before .before .before .before .before .before .before .before .before .before .before .before .before .before .before .loop-test .taken in omega arith
 
 type-part-loop-again : (t : ℕ) → type-part-lts.Need-loop-again (claims t) (type-part-at t) type-part.Post type-part-Inv-loop type-part-μ-loop
 type-part-loop-again t c =
-    let at = c .before .before .before .before .before .before .before .before .before .before .before .before .before in
+    let at = c .before .before .before .before .before .before .before .before .before .before .before .before .before .before .before .before .before .before in
     let start = at .before .before .before .before .before .before .before .before .before .before .before .before in
-    let f = rw (to-end (start .args .ws .now) (at .loop .next)) at (c .before .before .before .before .before .before .before .before .before .type-part .ensures) in
     let k = at .loop .inv .0 in
-    let u = c .before .before .before .before .before .before .before .before .before .before .before .before .loop-test .taken in
-    (omega arith, walked-more (at .loop .inv .1) (f .settled (not-false _ (c .before .before .before .before .before .if3 .left))) (f .kept) (c .before .before .gather .ensures) (c .before .larger .ensures))
+    let u = c .before .before .before .before .before .before .before .before .before .before .before .before .before .before .before .before .before .loop-test .taken in
+    (omega arith, λ x. walked-on _ (start .pre .1 .0) x (at .loop .inv .1 x) (start .pre .1 .1) (c .before .before .before .before .before .before .before .before .before .before .before .before .before .before .enter .ensures .0) (c .before .before .before .before .before .before .before .before .before .before .before .before .before .before .enter .ensures .1) (rw (to-end (start .args .ws .now) (at .loop .next)) at (c .before .before .before .before .before .before .before .before .before .type-part .ensures)) (not-false _ (c .before .before .before .before .before .if3 .left)) (c .before .before .gather .ensures) (c .before .larger .ensures))
+
+type-part-is-ninth-requires : (t : ℕ) → type-part-lts.Need-is-ninth-requires (claims t) (type-part-at t) type-part.Post type-part-Inv-loop type-part-μ-loop
+type-part-is-ninth-requires t c κs = search needs
+
+type-part-refused-requires-4 : (t : ℕ) → type-part-lts.Need-refused-requires-4 (claims t) (type-part-at t) type-part.Post type-part-Inv-loop type-part-μ-loop
+type-part-refused-requires-4 t c κs = search needs
+
+type-part-same-length-3 : (t : ℕ) → type-part-lts.Need-same-length-3 (claims t) (type-part-at t) type-part.Post type-part-Inv-loop type-part-μ-loop
+type-part-same-length-3 t c =
+    let at = c .before .before .before .before in
+    let start = at .before .before .before .before .before .before .before .before .before .before .before .before in
+    at .loop .inv .1 (start .pre .1 .4) .kept .long
+
+type-part-returns-5 : (t : ℕ) → type-part-lts.Need-returns-5 (claims t) (type-part-at t) type-part.Post type-part-Inv-loop type-part-μ-loop
+type-part-returns-5 t c =
+    let at = c .before .before .before .before in
+    let start = at .before .before .before .before .before .before .before .before .before .before .before .before in
+    let k = at .loop .inv .0 in
+    let e = c .before .before .before .loop-test .left in
+    λ x. walked-ninth (at .loop .inv .1 x) (rw (at .before .before .before .before .before .before .before .word-at .ensures) at (sym (at .before .before .before .before .before .before .arity-of .ensures) ∙ at .before .before .before .before .n .given .1)) (omega arith) (ap (λ (w : ℕ). w / 256) (at .before .before .before .before .before .before .before .word-at .ensures)) (bodies-at _ x) (c .before .before .is-ninth .ensures) (c .before .if4 .taken) (c .refused4 .ensures)
 
 type-part-add-settled : (t : ℕ) → type-part-lts.Need-add-settled (claims t) (type-part-at t) type-part.Post type-part-Inv-loop type-part-μ-loop
-type-part-add-settled t c = search needs
+type-part-add-settled t c =
+    let at = c .before .before .before in
+    let start = at .before .before .before .before .before .before .before .before .before .before .before .before in
+    let s = at .loop .inv .1 (start .pre .1 .4) .shallow in
+    let u = start .pre .1 .3 in
+    search needs
 
 type-part-conclude-requires : (t : ℕ) → type-part-lts.Need-conclude-requires (claims t) (type-part-at t) type-part.Post type-part-Inv-loop type-part-μ-loop
 type-part-conclude-requires t c κs =
-    let at = c .before .before in
+    let at = c .before .before .before .before in
     let start = at .before .before .before .before .before .before .before .before .before .before .before .before in
-    let w = at .loop .inv .1 in
+    let x = start .pre .1 .4 in
+    let w = at .loop .inv .1 x in
     let r = start .pre .1 .1 in
     let l = w .kept .long in
     let z = at .before .before .before .before .before .before .before .before .if1 .left in
     let n = at .before .before .if2 .left in
     let k = at .loop .inv .0 in
-    let e = c .before .loop-test .left in
+    let e = c .before .before .before .loop-test .left in
     let v = start .pre .1 .2 in
     let two = w .two (λ y. n (omega arith)) in
     let i = w .inside in
@@ -240,15 +312,20 @@ type-part-conclude-requires t c κs =
 type-part-settled-requires-2 : (t : ℕ) → type-part-lts.Need-settled-requires-2 (claims t) (type-part-at t) type-part.Post type-part-Inv-loop type-part-μ-loop
 type-part-settled-requires-2 t c κs = search needs
 
-type-part-same-length-3 : (t : ℕ) → type-part-lts.Need-same-length-3 (claims t) (type-part-at t) type-part.Post type-part-Inv-loop type-part-μ-loop
-type-part-same-length-3 t c = search needs
+type-part-same-length-4 : (t : ℕ) → type-part-lts.Need-same-length-4 (claims t) (type-part-at t) type-part.Post type-part-Inv-loop type-part-μ-loop
+type-part-same-length-4 t c =
+    let at = c .before .before .before .before .before .before .before .before in
+    let start = at .before .before .before .before .before .before .before .before .before .before .before .before in
+    let l = at .loop .inv .1 (start .pre .1 .4) .kept .long in
+    search needs
 
-type-part-returns-5 : (t : ℕ) → type-part-lts.Need-returns-5 (claims t) (type-part-at t) type-part.Post type-part-Inv-loop type-part-μ-loop
-type-part-returns-5 t c =
-    let at = c .before .before .before .before .before .before in
+type-part-returns-6 : (t : ℕ) → type-part-lts.Need-returns-6 (claims t) (type-part-at t) type-part.Post type-part-Inv-loop type-part-μ-loop
+type-part-returns-6 t c =
+    let at = c .before .before .before .before .before .before .before .before in
+    let start = at .before .before .before .before .before .before .before .before .before .before .before .before in
     let k = at .loop .inv .0 in
-    let e = c .before .before .before .before .before .loop-test .left in
-    walked-all (at .loop .inv .1) (rw (at .before .before .before .before .before .before .before .word-at .ensures) at (sym (at .before .before .before .before .before .before .arity-of .ensures) ∙ at .before .before .before .before .n .given .1)) (omega arith) (at .before .before .if2 .left) (ap (λ (w : ℕ). w / 256) (at .before .before .before .before .before .before .before .word-at .ensures)) (c .before .before .before .conclude .ensures) (c .settled2 .ensures)
+    let e = c .before .before .before .before .before .before .before .loop-test .left in
+    λ x. walked-all (at .loop .inv .1 x) (rw (at .before .before .before .before .before .before .before .word-at .ensures) at (sym (at .before .before .before .before .before .before .arity-of .ensures) ∙ at .before .before .before .before .n .given .1)) (omega arith) (ap (λ (w : ℕ). w / 256) (at .before .before .before .before .before .before .before .word-at .ensures)) (bodies-at _ x) (c .before .before .before .before .before .before .is-ninth .ensures) (c .before .before .before .before .before .if4 .left) (at .before .before .if2 .left) (c .before .before .before .conclude .ensures) (c .settled2 .ensures)
 
 pub +type-part-spec : {M : Type 1} → statement M
 +type-part-spec = close μ-type-part λ t. type-part-lts.spec (claims t)
@@ -271,6 +348,7 @@ pub +type-part-spec : {M : Type 1} → statement M
     (type-part-cast-head t)
     (type-part-none-yet-requires t)
     (type-part-loop-holds t)
+    (type-part-enter-requires t)
     (type-part-mul-type-part t)
     (type-part-sub-type-part t)
     (type-part-part-type-part-start t)
@@ -287,8 +365,12 @@ pub +type-part-spec : {M : Type 1} → statement M
     (type-part-add-k t)
     (type-part-loop-less t)
     (type-part-loop-again t)
+    (type-part-is-ninth-requires t)
+    (type-part-refused-requires-4 t)
+    (type-part-same-length-3 t)
+    (type-part-returns-5 t)
     (type-part-add-settled t)
     (type-part-conclude-requires t)
     (type-part-settled-requires-2 t)
-    (type-part-same-length-3 t)
-    (type-part-returns-5 t)
+    (type-part-same-length-4 t)
+    (type-part-returns-6 t)

@@ -1,0 +1,86 @@
+-- Distributing is one of two spreadings: over a sum of scalars, or else over one of arrays.
+use mathlib.Core.Path.{_≡_, refl, sym}
+use mathlib.Core.Logic.{_≢_}
+use mathlib.Core.Bool.{Bool, true, false, cond, _&&_}
+use mathlib.Core.List.{List}
+use mathlib.Core.Option.{Option, some, none}
+use Prim.Native.Nat.{ℕ}
+use native.Mathlib.Omega.{arith}
+use borrow.Author.Tests.{ne-eqb, eq-eqb}
+use lib.Dec.{eqb}
+use Rattle.term.specs.Heads.{Label, scalar-sum, add, big-sum, word}
+use Rattle.term.specs.Trees.{Tree, node, count, words}
+use Rattle.term.specs.Parts.{parse, treeIn}
+use Rattle.types.specs.Sorts.{Context}
+use Rattle.rules.specs.Table.{child, spreading, distributing}
+use Rattle.rules.specs.Instances.{scalar-sums, sums}
+use Rattle.rules.specs.Steps.{few}
+use Rattle.rules.specs.Rewrite.{isHead, open-at, place, usable, spreadAt, orElse, distributeAt, rewrite}
+use Rattle.families.specs.declared.writing.Rewritten.{Rewritten}
+use Rattle.families.specs.Code.Families.{Named, Counted, Spreads, Distributes}
+use Rattle.families.specs.Writing.{Wrote, Writes}
+use Rattle.families.proofs.Written.{refuses}
+
+-- over one kind of sum
+abbrev over : Context → Label → ℕ → Tree → Option Tree
+over Γ s i t = rewrite Γ (spreading big-sum (child 1) s s) i 0 t
+
+both-refused : (b : Bool) (x y : Option Tree) → cond b (orElse x y) none ≡ orElse (cond b x none) (cond b y none)
+unfolding orElse
+both-refused true x y = refl
+both-refused false x y = refl
+
+two-spreadings : (Γ : Context) (i : ℕ) (t : Tree) → rewrite Γ distributing i 0 t ≡ orElse (over Γ scalar-sum i t) (over Γ add i t)
+unfolding rewrite distributeAt
+two-spreadings Γ i (node m f) =
+    let o = open-at f (place (child 1) i) in
+    both-refused (eqb 0 0 && (usable (child 1) i && isHead big-sum m (count f))) (spreadAt big-sum scalar-sum scalar-sum o) (spreadAt big-sum add add o)
+
+-- what is written is neither refused nor followed
+module _ (out : List ℕ) (at : ℕ) where
+  not-refused : (b : Bool) (ws out′ : List ℕ) (r : Rewritten) → Wrote b ws out at out′ r → r .code ≢ 22
+  not-refused true ws out′ r w e = omega (arith, w .0, e)
+  not-refused false ws out′ r w e = omega (arith, w .0, e)
+
+  first-writes : (x y : Option Tree) (out′ : List ℕ) (r : Rewritten) → Writes x out at out′ r → r .code ≢ 22 → Writes (orElse x y) out at out′ r
+  unfolding Writes orElse
+  first-writes none y out′ r w h = absurd (h (w .0))
+  first-writes (some q) y out′ r w h = w
+
+  second-writes : (x y : Option Tree) (mid out′ : List ℕ) (d r : Rewritten) → Writes x out at mid d → d .code ≡ 22 → Writes y mid at out′ r → Writes (orElse x y) out at out′ r
+  unfolding Writes orElse
+  second-writes none y mid out′ d r w h v = rw (← w .2) v
+  second-writes (some q) y mid out′ d r w h v = absurd (not-refused (few q) (words q) mid d w h)
+
+unusable : (Γ : Context) (i : ℕ) (t : Tree) → i ≢ 0 → rewrite Γ distributing i 0 t ≡ none
+unfolding rewrite usable
+unusable Γ i (node m f) h = rw (ne-eqb i 0 h)
+
+named : Named 27 big-sum
+unfolding word
+named = record { number = refl; nameless = refl }
+
+scalars : Counted 7 scalar-sum
+unfolding word
+scalars = record { number = refl; chain = scalar-sums }
+
+arrays : Counted 20 add
+unfolding word
+arrays = record { number = refl; chain = sums }
+
+module _ (ws out : List ℕ) (at : ℕ) (i : ℕ) where
+  pub distributes-none : (out′ : List ℕ) (r : Rewritten) → i ≢ 0 → (r .code ≡ 22) × (r .end ≡ 0) → out′ ≡ out → Distributes ws out at out′ r i
+  distributes-none out′ r h c l = λ Γ. refuses out at out′ r (unusable Γ i (treeIn (parse ws)) h) c l
+
+  module _ (z : i ≡ 0) where
+    pub distributes-first : (out′ : List ℕ) (r : Rewritten) → Spreads ws out at out′ r 27 1 7 7 → r .code ≢ 22 → Distributes ws out at out′ r i
+    unfolding usable place word
+    distributes-first out′ r h n Γ =
+        rw (two-spreadings Γ i (treeIn (parse ws)))
+        (first-writes out at _ _ out′ r (h big-sum scalar-sum scalar-sum (child 1) i named scalars scalars (eq-eqb i 0 z) refl Γ) n)
+
+    pub distributes-second : (mid out′ : List ℕ) (d r : Rewritten) → Spreads ws out at mid d 27 1 7 7 → d .code ≡ 22 → Spreads ws mid at out′ r 27 1 20 20 → Distributes ws out at out′ r i
+    unfolding usable place word
+    distributes-second mid out′ d r h n k Γ =
+        rw (two-spreadings Γ i (treeIn (parse ws)))
+        (second-writes out at _ _ mid out′ d r (h big-sum scalar-sum scalar-sum (child 1) i named scalars scalars (eq-eqb i 0 z) refl Γ) n (k big-sum add add (child 1) i named arrays arrays (eq-eqb i 0 z) refl Γ))

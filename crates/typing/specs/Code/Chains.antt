@@ -1,0 +1,70 @@
+-- The sums over a basis around a part, as the stack has them: a record each, two words behind those of the sum's index. The first says how many words the index has, 0 where there is none,
+-- and the second where the record of the next outer sum stands.
+use mathlib.Core.Path.{_≡_}
+use mathlib.Core.Bool.{Bool, cond, not, _&&_}
+use mathlib.Core.List.{List, [], _∷_}
+use Prim.Native.Nat.{ℕ, zero, suc, _+_, _-_, _≤_}
+use lib.Dec.{eqb, ltb, leb}
+use lib.ListN.{length, getD}
+use Rattle.words.specs.Words.{laid}
+use Rattle.term.specs.Trees.{Tree, words}
+use Rattle.term.specs.Terms.{maxBodies}
+use Rattle.types.specs.TypeOf.{indexTree}
+use Rattle.typebook.specs.Code.Shapes.{numberOf}
+use Rattle.typing.specs.declared.sorts.Sorted as S
+use Rattle.typing.specs.declared.bodies.Around as B
+use Rattle.typing.specs.Code.Shapes.{run}
+
+-- the record of the a-th sum, from the innermost on
+unfoldable pub linkAt : List ℕ → ℕ → ℕ → ℕ
+linkAt st at zero = at
+linkAt st at (suc a) = linkAt st (getD st (at + 1) 0) a
+
+-- the words of a tree that is an index
+unfoldable pub indexWords : ℕ → Tree → List ℕ
+unfolding indexTree words
+indexWords types σ = cond (indexTree types σ) (words σ) []
+
+-- the record of a sum over a tree, below an offset
+pub record Sum (types : ℕ) (st : List ℕ) (top at : ℕ) (σ : Tree) : Type 0 where
+  pub low : at + 2 ≤ top
+  pub back : getD st at 0 ≤ at
+  pub few : getD st at 0 ≤ 63
+  pub is : run st (at - getD st at 0) (getD st at 0) ≡ indexWords types σ
+
+-- those of sums over these trees, the innermost first
+pub data Chained (types : ℕ) (st : List ℕ) : ℕ → ℕ → List Tree → Type 0 where
+  unbound : {top inner : ℕ} → inner ≤ top → Chained types st top inner []
+  bound : {top inner : ℕ} {σ : Tree} {bs : List Tree} → Sum types st top inner σ → Chained types st inner (getD st (inner + 1) 0) bs → Chained types st top inner (σ ∷ bs)
+
+-- the trees of so many sums
+pub record Held (types : ℕ) (st : List ℕ) (top : ℕ) (a : B.Around) : Type 0 where
+  pub trees : List Tree
+  pub chain : Chained types st top (a .inner) trees
+  pub long : length trees ≡ a .bodies
+
+-- ---- a record is written before the second child
+unfoldable pub indexLen : S.Sorted → ℕ
+indexLen s = cond (eqb (numberOf (s .class)) 1) (s .left) 0
+
+unfoldable pub enters : ℕ → ℕ → Bool
+enters h k = eqb h 27 && not (eqb k 0)
+
+abbrev pub recordAt : ℕ → S.Sorted → ℕ
+recordAt top first = top + first .left + first .right
+
+unfoldable pub entered : ℕ → ℕ → ℕ → S.Sorted → B.Around → B.Around
+unfolding enters
+entered h k top first a = cond (enters h k) (record { bodies = a .bodies + 1; inner = recordAt top first }) a
+
+unfoldable pub enteredOn : ℕ → ℕ → ℕ → S.Sorted → B.Around → List ℕ → List ℕ
+unfolding enters indexLen
+enteredOn h k top first a st = cond (enters h k) (laid st (recordAt top first) (indexLen first ∷ a .inner ∷ [])) st
+
+-- whether so many bodies have a sum of this number that a bound basis may be of
+unfoldable pub inReach : ℕ → ℕ → Bool
+inReach n a = ltb a maxBodies && ltb a n
+
+-- a sum over a basis in as many bodies as there may be
+unfoldable pub ninth : ℕ → ℕ → Bool
+ninth h n = eqb h 27 && leb maxBodies n
