@@ -182,7 +182,7 @@ pub static RULES: [Rule; 122] = [
     rule(160, "MULO10", "(O1·O2)·O3 ▷ O1·(O2·O3)"),
     rule(161, "MULO11", "(O1⊗O2)·(O1'⊗O2') ▷ (O1·O1')⊗(O2·O2')"),
     rule(162, "MULO12", "(O1⊗O2)·((O1'⊗O2')·O3) ▷ ((O1·O1')⊗(O2·O2'))·O3"),
-    // Document 01's own (also for × and for X).
+    // Document 01's own (also for × and for X; by change request 2 for δ(s,t) too, with i = 0).
     by(Way::Swap, 170, "SWAP", "a1+…+ai+aj+…+an ▷ a1+…+aj+ai+…+an, j = i + 1"),
     // Change request 1's own; i is the basis that the sum binds (182 also for X).
     rule(180, "SUM0", "Σ_σ(0) ▷ 0"),
@@ -249,7 +249,7 @@ pub struct Spot<'t> {
     pub part: &'t [u16],
 }
 
-/// A sum or product, opened.
+/// A sum, a product or a delta, opened.
 struct Opened<'t> {
     head: u8,
     children: usize,
@@ -262,6 +262,16 @@ impl<'t> Opened<'t> {
         let (&first, words) = part.split_first()?;
         let counted = form(head(first)) == Form::Count;
         counted.then(|| Opened { head: head(first), children: usize::from(low(first)), words })
+    }
+
+    /// What has no order: a sum or product, or a delta, which has two children.
+    fn unordered(part: &'t [u16]) -> Option<Self> {
+        match part.split_first()? {
+            (&first, words) if head(first) == DELTA => {
+                Some(Opened { head: DELTA, children: 2, words })
+            }
+            _ => Opened::new(part),
+        }
     }
 
     /// What stands before child i, the child, and what stands behind it.
@@ -281,7 +291,8 @@ impl Rule {
     pub fn begins_with(&self, first: u8) -> bool {
         match &self.way {
             Way::Law(law) => matches!(law.left.get(), [Item::Word(w), ..] if head(*w) == first),
-            Way::Merge | Way::Swap => matches!(first, ADDS | MULS | ADD),
+            Way::Merge => matches!(first, ADDS | MULS | ADD),
+            Way::Swap => matches!(first, ADDS | MULS | ADD | DELTA),
             Way::Remove { parent, .. } => first == *parent,
             Way::Absorb | Way::Spread => first == MULS,
             Way::Collect { .. } => first == ADD,
@@ -414,10 +425,10 @@ fn multiple(summand: &[u16], scaled: bool) -> Option<(&[u16], &[u16])> {
 
 /// 170: children i and i + 1 change places.
 fn swapped(part: &[u16], i: usize, out: &mut Out) -> Option<()> {
-    let sum = Opened::new(part).filter(|sum| i + 1 < sum.children)?;
-    let (before, child, rest) = sum.split(i)?;
+    let whole = Opened::unordered(part).filter(|whole| i + 1 < whole.children)?;
+    let (before, child, rest) = whole.split(i)?;
     let (next, behind) = split_part(rest);
-    out.counted(sum.head, sum.children);
+    out.part(&part[..1]);
     out.part(before);
     out.part(next);
     out.part(child);

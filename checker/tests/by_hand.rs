@@ -89,7 +89,7 @@ fn step(rule: u16, i: u16, j: u16, term: &[u16]) -> (u8, String) {
 }
 
 /// Rule, i, j, the part, what it becomes.
-const RESULTS: [(u16, u16, u16, &str, &str); 134] = [
+const RESULTS: [(u16, u16, u16, &str, &str); 137] = [
     (1, 1, 0, "7:3 a 7:2 b c a", "7:4 a b c a"),
     (1, 0, 0, "8:2 8:1 a b", "8:2 a b"),
     (1, 1, 0, "20:2 kS 20:2 lS kS", "20:3 kS lS kS"),
@@ -213,6 +213,9 @@ const RESULTS: [(u16, u16, u16, &str, &str); 134] = [
     (170, 0, 0, "7:2 a b", "7:2 b a"),
     (170, 0, 0, "8:3 a b c", "8:3 b a c"),
     (170, 1, 0, "20:3 kS lS kS", "20:3 kS kS lS"),
+    (170, 0, 0, "10 s p", "10 p s"),
+    (170, 0, 0, "10 s s", "10 s s"),
+    (170, 0, 0, "10 4 s t 4 p t", "10 4 p t 4 s t"),
     (180, 0, 0, "27 S 5", "5"),
     (180, 0, 0, "27 2 S T 5", "5"),
     (181, 0, 0, "27 S 24 16 28:0 17 28:0", "15 S"),
@@ -252,7 +255,7 @@ fn unused_indices_are_zero() {
 }
 
 /// Rule, i, j, a typed part that is no instance.
-const REFUSED: [(u16, u16, u16, &str); 98] = [
+const REFUSED: [(u16, u16, u16, &str); 111] = [
     (1, 0, 0, "7:2 8:1 a b"),
     (1, 2, 0, "7:2 7:1 a b"),
     (1, 0, 0, "7:2 a 7:1 b"),
@@ -328,8 +331,22 @@ const REFUSED: [(u16, u16, u16, &str); 98] = [
     (160, 0, 0, "25 ST 25 TU UV"),
     (170, 1, 0, "7:2 a b"),
     (170, 65535, 0, "7:2 a b"),
-    (170, 0, 0, "10 s p"),
+    (170, 1, 0, "10 s p"),
+    (170, 2, 0, "10 s p"),
+    (170, 256, 0, "10 s p"),
+    (170, 65535, 0, "10 s p"),
+    (170, 0, 1, "10 s p"),
+    (170, 0, 0, "11 bS kS"),
+    (170, 0, 0, "14 S T"),
+    (170, 0, 0, "19 a kS"),
     (170, 0, 0, "21 kS kU"),
+    (170, 0, 0, "22 SS kS"),
+    (170, 0, 0, "23 bS SS"),
+    (170, 0, 0, "24 kS bS"),
+    (170, 0, 0, "25 SS SS"),
+    // Elsewhere a delta keeps its order: these are equal only word by word.
+    (51, 0, 1, "20:2 19 10 s p kS 19 10 p s kS"),
+    (1, 0, 0, "10 s p"),
     (1, 0, 0, "27 S 7:1 7:1 a"),
     (170, 0, 0, "27 S 7:2 a b"),
     (180, 0, 0, "27 S 6"),
@@ -361,9 +378,9 @@ fn what_is_no_instance_is_refused_and_stays() {
     }
 }
 
-/// Rule, place, a term with bodies, what it becomes. All but the last five need
+/// Rule, place, a term with bodies, what it becomes. All but the last eight need
 /// the type of a part that names a basis bound around it.
-const INSIDE: [(u16, u16, &str, &str); 22] = [
+const INSIDE: [(u16, u16, &str, &str); 25] = [
     (43, 2, "27 S 19 5 16 28:0", "27 S 12 S"),
     (43, 4, "27 S 27 T 19 5 16 28:0", "27 S 27 T 12 T"),
     (43, 4, "27 S 27 T 19 5 16 28:1", "27 S 27 T 12 S"),
@@ -386,6 +403,9 @@ const INSIDE: [(u16, u16, &str, &str); 22] = [
     (183, 2, "27 S 27 S 10 28:1 28:0", "27 S 6"),
     (183, 2, "27 S 27 2 S T 10 4 28:1 t 28:0", "27 S 6"),
     (182, 2, "27 S 27 S 7:2 10 28:1 28:0 a", "27 S 7:2 27 S 10 28:1 28:0 27 S a"),
+    (170, 2, "27 S 10 28:0 s", "27 S 10 s 28:0"),
+    (170, 4, "27 S 27 S 10 28:0 28:1", "27 S 27 S 10 28:1 28:0"),
+    (170, 4, "27 T 8:2 a 10 4 s 28:0 4 p t", "27 T 8:2 a 10 4 p t 4 s 28:0"),
 ];
 
 #[test]
@@ -406,6 +426,9 @@ fn rules_hold_inside_bodies() {
         (183, 2, "27 S 27 S 10 28:0 28:1"),
         (183, 2, "27 S 27 S 10 28:1 28:1"),
         (183, 0, "27 S 27 S 10 28:0 28:1"),
+        (170, 0, "27 S 10 28:0 s"),
+        (170, 3, "27 S 10 28:0 s"),
+        (170, 3, "27 T 10 4 s 28:0 4 p t"),
     ];
     for (rule, place, term) in refused {
         let term = read(term);

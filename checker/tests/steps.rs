@@ -6,7 +6,7 @@ use checker::gen::Gen;
 use checker::lent::Case;
 use checker::rules::{by_number, Out, Rule, Spot, Way, RULES};
 use checker::step::{single, Step, Stepped};
-use checker::words::{head, low, part, parts, word, DEPTH, SCR, WORDS};
+use checker::words::{head, low, part, parts, word, ADD, ADDS, DELTA, DEPTH, MULS, SCR, WORDS};
 use std::collections::BTreeMap;
 use std::sync::OnceLock;
 
@@ -120,6 +120,19 @@ fn every_rule_is_narrowly_missed() {
             assert!(misses.contains_key(&(rule.number, miss)), "rule {}: {miss:?}", rule.number);
         }
     }
+}
+
+#[test]
+fn whatever_has_no_order_is_swapped_and_a_delta_narrowly_missed() {
+    let swaps = |code| answered(code).filter(|it| it.step.rule == 170);
+    let of = |it: &Taken| head(it.spot().part[0]);
+    let taken = counted(swaps(0).map(of));
+    let near = |it: &&Taken| miss(it).is_some_and(|(_, miss)| miss == Miss::Indices);
+    let by_i = counted(swaps(22).filter(near).filter(|it| it.step.j == 0).map(of));
+    let by_j = counted(swaps(22).filter(near).filter(|it| it.step.j != 0).map(of));
+    println!("by head: taken {taken:?}; missed by i {by_i:?}, by j {by_j:?}");
+    assert!([ADDS, MULS, ADD, DELTA].iter().all(|head| taken.get(head) >= Some(&5)));
+    assert!(by_i.contains_key(&DELTA) && by_j.contains_key(&DELTA));
 }
 
 /// Whether a refused part has just one child too few, or two children that

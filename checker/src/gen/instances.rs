@@ -23,6 +23,7 @@ impl Gen {
         match &rule.way {
             Way::Law(law) => (0..10_000).find_map(|_| self.lawful(law)),
             Way::SpreadBody => Some(self.sum_of_a_sum()),
+            Way::Swap if self.rng.once_in(4) => Some(self.delta()),
             way => Some(self.indexed(way)),
         }
     }
@@ -36,6 +37,15 @@ impl Gen {
         self.counted(sum_head(&want), &want, 1, &mut words);
         self.bound.pop();
         Instance { want, words, i: 0, j: 0 }
+    }
+
+    /// A delta of two bases of an index; each declared type has one.
+    fn delta(&mut self) -> Instance {
+        let index = self.middle();
+        let mut words = vec![word(DELTA, 0)];
+        let done = self.basis(&index, &mut words) && self.basis(&index, &mut words);
+        assert!(done, "a basis of {}", tokens(&index));
+        Instance { want: Scalar, words, i: 0, j: 0 }
     }
 
     fn lawful(&mut self, law: &Law) -> Option<Instance> {

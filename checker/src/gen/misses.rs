@@ -82,6 +82,7 @@ impl Gen {
             0..3 if matches!(step.rule, 181 | 183) => self.rebind(words, step.place.into()),
             0 if counted => self.recount(words, step.place.into()),
             1 | 2 if counted => leave_one(words, step),
+            _ if step.rule == 170 && !counted => undo_delta(words, step.place.into()),
             _ if wanted.is_empty() => self.recount(words, step.place.into()),
             _ => {
                 let at = *self.rng.pick(&wanted);
@@ -158,7 +159,7 @@ impl Gen {
     }
 
     /// The type of a part that stands in the open bodies.
-    fn want_of(&self, part: &[u16]) -> Option<Want> {
+    pub(super) fn want_of(&self, part: &[u16]) -> Option<Want> {
         let found = type_around(&self.declared, Around::over(&self.bound), part).ok()?;
         let first = found.first().to_vec();
         Some(match found.kind {
@@ -178,6 +179,13 @@ fn leave_one(words: &mut Vec<u16>, step: &mut Step) {
     let alone = [&[word(head(whole[0]), 1)], child].concat();
     words.splice(place..place + whole.len(), alone);
     (step.i, step.j) = (0, 0);
+}
+
+/// Puts ⟨s|t⟩ in the place of δ(s,t), which is equal and has an order.
+fn undo_delta(words: &mut Vec<u16>, place: usize) {
+    let second = children(words, place)[1];
+    words.insert(second, word(KET, 0));
+    words.splice(place..=place, [word(DOT, 0), word(BRA, 0)]);
 }
 
 /// Where the rule of a good step wants more of a part than its sort: that it

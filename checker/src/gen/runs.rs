@@ -41,6 +41,15 @@ fn other(side: Side) -> Side {
     }
 }
 
+/// How many children a word has that 170 may exchange.
+fn swappable(first: u16) -> usize {
+    match form(head(first)) {
+        Form::Count => low(first).into(),
+        _ if head(first) == DELTA => 2,
+        _ => 0,
+    }
+}
+
 impl Gen {
     /// A run case: a derivation that is accepted, or one with something wrong,
     /// now and then with more than one thing.
@@ -111,8 +120,19 @@ impl Gen {
         };
         let mut steps = self.detour(&words);
         steps.push(step);
+        if self.refused(&words, step) && self.rng.once_in(2) {
+            return self.unmet(words, &steps);
+        }
         let joined = self.rng.within(0, steps.len());
         self.meeting(words, &steps, joined)
+    }
+
+    /// Steps on the left, of which the last is past a limit: the ends are not
+    /// compared, and the right is any short term of the type.
+    fn unmet(&mut self, left: Vec<u16>, steps: &[Step]) -> Derivation {
+        let right = self.want_of(&left).map(|want| self.term(&want, 1));
+        let steps = self.interleave(steps, &[]);
+        Derivation { right: right.unwrap_or_else(|| left.clone()), left, steps }
     }
 
     /// Hundreds of swaps in a sum of up to 255 children and thousands of words,
@@ -146,16 +166,15 @@ impl Gen {
     }
 
     /// A few swaps that lead away from a term and back to it, where it has a
-    /// sum or product of more than one.
+    /// delta, or a sum or product of more than one.
     fn detour(&mut self, words: &[u16]) -> Vec<Step> {
-        let many =
-            |&place: &usize| form(head(words[place])) == Form::Count && low(words[place]) > 1;
+        let many = |&place: &usize| swappable(words[place]) > 1;
         let places: Vec<usize> = (0..words.len()).filter(many).collect();
         if places.is_empty() {
             return Vec::new();
         }
         let place = *self.rng.pick(&places);
-        let n = usize::from(low(words[place]));
+        let n = swappable(words[place]);
         let there: Vec<Step> = (0..self.rng.below(4)).map(|_| self.swap(place, n)).collect();
         there.iter().chain(there.iter().rev()).copied().collect()
     }

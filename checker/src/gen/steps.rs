@@ -7,7 +7,7 @@ use super::terms::Want;
 use super::Gen;
 use crate::decl::Declarations;
 use crate::lent::{Case, Lent};
-use crate::rules::RULES;
+use crate::rules::{by_number, RULES};
 use crate::step::{rewrite, Step};
 use crate::words::*;
 
@@ -39,7 +39,9 @@ impl Gen {
 
     /// An instance of any rule inside a larger term of some type.
     pub(super) fn inside(&mut self) -> (Want, Vec<u16>, Step) {
-        let rule = self.rng.pick(&RULES);
+        // 170 is for four heads, and comes as often as four rules.
+        let picked = RULES.get(self.rng.below(RULES.len() + 3)).or_else(|| by_number(170));
+        let rule = picked.expect("170 is a rule");
         let Some(instance) = self.instance(rule) else {
             return self.inside();
         };
@@ -54,6 +56,12 @@ impl Gen {
         let length = rewrite(&self.declared, &mut slice, words.len(), step, &mut [0; WORDS]);
         slice.truncate(length.unwrap_or(words.len()));
         slice
+    }
+
+    /// Whether a step of a term is past a limit, or else refused.
+    pub(super) fn refused(&self, words: &[u16], step: Step) -> bool {
+        let mut slice = self.case(words.to_vec()).slice();
+        rewrite(&self.declared, &mut slice, words.len(), step, &mut [0; WORDS]).is_err()
     }
 
     /// An instance in a term so deep that the result is about 64 deep.

@@ -113,7 +113,7 @@ impl Gen {
         Some(steps)
     }
 
-    fn interleave(&mut self, left: &[Step], right: &[Step]) -> Vec<(Side, Step)> {
+    pub(super) fn interleave(&mut self, left: &[Step], right: &[Step]) -> Vec<(Side, Step)> {
         let (mut left, mut right) = (left.iter().peekable(), right.iter().peekable());
         let mut steps = Vec::new();
         loop {

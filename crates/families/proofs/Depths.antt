@@ -10,7 +10,7 @@ use Rattle.term.specs.Trees.{Tree, Forest, node, none, _▹_, _⧺_, count, dep
 use Rattle.term.proofs.Extents.{depth*-⧺}
 use Rattle.types.specs.Sorts.{Context}
 use Rattle.rules.specs.Table.{Rule, _⇒_▷_, spreading, removing, absorbing, merging, collecting, swapping, distributing, ruleOf}
-use Rattle.rules.specs.Rewrite.{isHead, isChain, Opened, outside, opened, removeAt, absorbAt, mergeAt, swapAt, rewrite}
+use Rattle.rules.specs.Rewrite.{isHead, isChain, isLoose, Opened, outside, opened, removeAt, absorbAt, mergeAt, swapAt, rewrite}
 use Rattle.rules.proofs.Opening.{At, too-far, there, at}
 use Rattle.rules.proofs.Matching.{no-answer, cond-some}
 use Rattle.rulebook.specs.declared.Row.{Row}
@@ -71,7 +71,7 @@ no-deeper (removing l c) h Γ i j (node m f) u e = at-child (eqb j 0 && isHead l
 no-deeper absorbing h Γ i j (node m f) u e = at-child (eqb j 0 && isHead scalar-product m (count f)) absorbAt refl absorbed (at f i) e
 no-deeper merging h Γ i j (node m f) u e = at-child (eqb j 0 && isChain m (count f)) (mergeAt m) refl (merged m) (at f i) e
 no-deeper (collecting x y) h Γ i j t u e = true-false h
-no-deeper swapping h Γ i j (node m f) u e = at-child (eqb j 0 && isChain m (count f)) (swapAt m) refl (swapped m) (at f i) e
+no-deeper swapping h Γ i j (node m f) u e = at-child (eqb j 0 && isLoose m (count f)) (swapAt m) refl (swapped m) (at f i) e
 no-deeper distributing h Γ i j t u e = true-false h
 
 -- ---- by the family of a row

@@ -14,11 +14,11 @@ use Rattle.term.specs.Heads.{Label, type-name, basis-name, variable, index-prod
 use Rattle.term.specs.Trees.{Forest, node, count, Formed}
 use Rattle.term.proofs.Readings.{read-few}
 use Rattle.rules.specs.Instances.{Chain, scalar-sums, scalar-products, sums}
-use Rattle.rules.specs.Rewrite.{nameless, isHead, isChain}
+use Rattle.rules.specs.Rewrite.{nameless, isHead, isChain, isLoose}
 use Rattle.rules.proofs.Known.{either, is-head, head-is}
 use Rattle.typebook.specs.Code.Lines.{rules, ruleAt, isSum}
 use Rattle.rulebook.specs.Code.Rows.{headNumber}
-use Rattle.families.specs.Code.Families.{chainWord}
+use Rattle.families.specs.Code.Families.{chainWord, looseWord}
 
 -- ---- the line of the table that a head's number picks is that head's
 abbrev Line : Label → Head → Type 0
@@ -148,6 +148,15 @@ sum-heads h = elim (decLt h 28) [
 pub chain-test : (m : Label) (f : Forest) → Formed (node m f) → chainWord (word m (count f)) ≡ isChain m (count f)
 unfolding isChain word
 chain-test m f h = rw (head-test scalar-sum m f refl h, head-test scalar-product m f refl h, head-test add m f refl h)
+
+-- and of a head that is loose: these, and 10
+delta-test : (m : Label) (f : Forest) → Formed (node m f) → eqb (word m (count f) / 256) 10 ≡ isHead delta m (count f)
+unfolding word
+delta-test m f h = head-test delta m f refl h
+
+pub loose-test : (m : Label) (f : Forest) → Formed (node m f) → looseWord (word m (count f)) ≡ isLoose m (count f)
+unfolding isLoose
+loose-test m f h = rw (delta-test m f h, chain-test m f h)
 
 pub chain-of : (m : Label) (f : Forest) → Formed (node m f) → chainWord (word m (count f)) ≡ true → Chain m
 unfolding word

@@ -17,17 +17,17 @@ use Rattle.rules.specs.Rewrite.{outside, open-at, swapAt, rewrite}
 use Rattle.rules.specs.Steps.{few}
 use Rattle.rules.proofs.Formed.{formed-few, formed-few*}
 use Rattle.families.specs.Code.Children.{kids}
-use Rattle.families.specs.Code.Families.{chainWord}
+use Rattle.families.specs.Code.Families.{looseWord}
 use Rattle.families.proofs.Split.{root, Split, up-to-child, child-run, before-formed, child-formed, after-formed}
 use Rattle.families.proofs.Next.{Next, last-child}
-use Rattle.families.proofs.Tested.{cond-same, root-chain, root-outside, parent-is-chain}
+use Rattle.families.proofs.Tested.{cond-same, root-loose, root-outside, parent-is-loose}
 use Rattle.families.proofs.Few.{few*-⧺, few*-▹, formed-count, few-node}
 
--- ---- the part is no chain, or has no such child
+-- ---- the part's children may not change places, or there is no such child
 module _ (Γ : Context) {ws : List ℕ} (i : ℕ) (w : Whole ws) where
-  pub swaps-other : chainWord (getD ws 0 0) ≡ false → rewrite Γ swapping i 0 (treeIn (parse ws)) ≡ refused
+  pub swaps-other : looseWord (getD ws 0 0) ≡ false → rewrite Γ swapping i 0 (treeIn (parse ws)) ≡ refused
   unfolding rewrite
-  swaps-other e = let r = root w in rw (r .tree, root-chain r ∙ e)
+  swaps-other e = let r = root w in rw (r .tree, root-loose r ∙ e)
 
   pub swaps-outside : open-at (kids (treeIn (parse ws))) i ≡ outside → rewrite Γ swapping i 0 (treeIn (parse ws)) ≡ refused
   unfolding rewrite swapAt
@@ -41,10 +41,10 @@ module _ {ws : List ℕ} {i start end : ℕ} (s : Split ws i start end) where
 
   module _ {next : ℕ} (n : Next s next) where
     -- the two change places
-    pub swaps-children : (Γ : Context) → chainWord (getD ws 0 0) ≡ true
+    pub swaps-children : (Γ : Context) → looseWord (getD ws 0 0) ≡ true
         → rewrite Γ swapping i 0 (treeIn (parse ws)) ≡ some (node (s .parent) (s .before ⧺ n .sibling ▹ node (s .label) (s .below) ▹ n .others))
     unfolding rewrite swapAt
-    swaps-children Γ k = rw (s .tree, parent-is-chain s k, s .child, n .after)
+    swaps-children Γ k = rw (s .tree, parent-is-loose s k, s .child, n .after)
 
     same-count : count (s .before ⧺ n .sibling ▹ node (s .label) (s .below) ▹ n .others) ≡ count (s .before ⧺ node (s .label) (s .below) ▹ s .after)
     unfolding count

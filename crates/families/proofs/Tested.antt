@@ -12,14 +12,14 @@ use Rattle.term.specs.Trees.{Tree, Forest, node, _▹_, count, _⧺_}
 use Rattle.term.specs.Parts.{Whole, parse, treeIn}
 use Rattle.term.proofs.Parsing.{count-⧺}
 use Rattle.rules.specs.Instances.{Chain}
-use Rattle.rules.specs.Rewrite.{isHead, isChain, outside, open-at}
+use Rattle.rules.specs.Rewrite.{isHead, isChain, isLoose, outside, open-at}
 use Rattle.families.specs.Code.Children.{kids}
 use Rattle.rulebook.specs.Code.Rows.{headNumber}
-use Rattle.families.specs.Code.Families.{chainWord, Named, Counted}
+use Rattle.families.specs.Code.Families.{chainWord, looseWord, Named, Counted}
 use Rattle.families.proofs.Split.{Root, root, first-word, Split, parent-word, child-word, child-formed}
 use Rattle.families.proofs.Few.{formed-count}
 use Rattle.rules.proofs.Decided.{chain-nameless}
-use Rattle.families.proofs.Heads.{same-head, other-head, chain-test, chain-of, chain-word}
+use Rattle.families.proofs.Heads.{same-head, other-head, chain-test, loose-test, chain-of, chain-word}
 
 -- a test that makes no difference
 pub cond-same : {A : Type 0} {x : A} (b : Bool) → cond b x x ≡ x
@@ -37,6 +37,9 @@ root-other {l} r p n = other-head l (r .label) (r .children) (p .nameless) (r .f
 pub root-chain : {ws : List ℕ} (r : Root ws) → isChain (r .label) (count (r .children)) ≡ chainWord (getD ws 0 0)
 root-chain r = rw (first-word r) (sym (chain-test (r .label) (r .children) (r .formed)))
 
+pub root-loose : {ws : List ℕ} (r : Root ws) → isLoose (r .label) (count (r .children)) ≡ looseWord (getD ws 0 0)
+root-loose r = rw (first-word r) (sym (loose-test (r .label) (r .children) (r .formed)))
+
 -- ---- a part without child i is no instance of a rule that asks for it
 pub root-outside : {ws : List ℕ} → Whole ws → (i : ℕ) (g : Tree → Option Tree) → ((m : Label) (f : Forest) → open-at f i ≡ outside → g (node m f) ≡ refused)
     → open-at (kids (treeIn (parse ws))) i ≡ outside → g (treeIn (parse ws)) ≡ refused
@@ -53,6 +56,9 @@ module _ {ws : List ℕ} {i start end : ℕ} (s : Split ws i start end) where
 
   pub parent-is-chain : chainWord (getD ws 0 0) ≡ true → isChain (s .parent) (count (s .before ⧺ node (s .label) (s .below) ▹ s .after)) ≡ true
   parent-is-chain e = sym (chain-test (s .parent) _ (s .formed)) ∙ (rw (parent-word s) at e)
+
+  pub parent-is-loose : looseWord (getD ws 0 0) ≡ true → isLoose (s .parent) (count (s .before ⧺ node (s .label) (s .below) ▹ s .after)) ≡ true
+  parent-is-loose e = sym (loose-test (s .parent) _ (s .formed)) ∙ (rw (parent-word s) at e)
 
   -- the child's head
   pub child-is : {h : ℕ} {l : Label} → Named h l → getD ws start 0 / 256 ≡ h → l ≡ s .label

@@ -14,7 +14,7 @@ ghost use Prim.Native.Nat.{_-_, _≤_};
 ghost use lib.ListN.{length, take, drop};
 ghost use Rattle.words.specs.Words.{Added};
 ghost use Rattle.term.specs.Parts.{Whole};
-ghost use Rattle.families.specs.Code.Families.{Removes, Absorbs, Merges, Swaps, chainWord};
+ghost use Rattle.families.specs.Code.Families.{Removes, Absorbs, Merges, Swaps, chainWord, looseWord};
 
 // A head and then the children of `ws` without its words from `start` up to `from`.
 fn append_without(
@@ -67,6 +67,9 @@ pub fn remove(
 // The head of a product of scalars.
 const PRODUCT: u16 = 8;
 
+// The head of a delta.
+const DELTA: u16 = 10;
+
 // 5: child `i` is 0, and so is the product.
 pub fn absorb(ws: &[u16], i: usize, out: &mut [u16], at: usize) -> Rewritten
     requires { ⌜ Whole (now ws) ⌝ }
@@ -92,6 +95,16 @@ fn is_chain(word: u16) -> bool
     ensures { λ r. ⌜ r ≡ chainWord word ⌝ }
 {
     is_sum((word / 256) as usize)
+}
+
+// Whether a word's head may have its children in another order: a delta too.
+fn is_loose(word: u16) -> bool
+    ensures { λ r. ⌜ r ≡ looseWord word ⌝ }
+{
+    if word / 256 == DELTA {
+        return true;
+    }
+    is_chain(word)
 }
 
 // 1: child `i`, of the parent's own head, is merged into it: its head's word goes, and the parent's counts its children too.
@@ -123,7 +136,7 @@ pub fn swap(ws: &[u16], i: usize, out: &mut [u16], at: usize) -> Rewritten
     requires { ⌜ Whole (now ws) ⌝ }
     ensures { λ r. ⌜ Swaps (now (ws .entry)) (now (out .entry)) at (now (out .exit)) r i ⌝ }
 {
-    if !is_chain(ws[0]) {
+    if !is_loose(ws[0]) {
         return refused(22);
     }
     let c = child_at(ws, i);

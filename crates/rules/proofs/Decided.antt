@@ -11,7 +11,7 @@ use lib.Dec.{eqb, ltb}
 use lib.ListN.{length}
 use Rattle.words.specs.Words.{sameWords}
 use Rattle.words.proofs.Runs.{same-words}
-use Rattle.term.specs.Heads.{Label, word, heads, labelled, reading, scalar-zero, scalar-sum, scalar-product, scale, add, big-sum}
+use Rattle.term.specs.Heads.{Label, word, heads, labelled, reading, scalar-zero, scalar-sum, scalar-product, delta, scale, add, big-sum}
 use Rattle.term.specs.Trees.{Tree, Forest, node, none, _▹_, _⧺_, count, words, Formed}
 use Rattle.term.proofs.Readings.{read-at}
 use Rattle.term.proofs.Parsing.{⧺-assoc, count-⧺, Formed*-⧺}
@@ -19,8 +19,8 @@ use Rattle.types.specs.Sorts.{Sort, index, basis, scalar, ket, bra, operator, C
 use Rattle.types.specs.Rules.{_⊢_∶_, WellFormed}
 use Rattle.rules.specs.Patterns.{Pattern, #_, first, second, _⟨⟩, _⟨_⟩, _⟨_∣_⟩}
 use Rattle.rules.specs.Table.{Condition, any, a-ket, a-bra, an-operator, unused, Which, child, child-i, Summand, plain, scaled, Rule, _⇒_▷_, spreading, removing, absorbing, merging, collecting, swapping, distributing}
-use Rattle.rules.specs.Instances.{Filled, hole, first-of, second-of, over-none, over-one, over-two, Holds, Chain, scalar-sums, scalar-products, sums, Sum, of-scalars, of-arrays, Picks, spread, summand, factor, Instance, equals, spreads, removes, absorbs, merges, collects, swaps, distributes}
-use Rattle.rules.specs.Rewrite.{nameless, isHead, sortOf, wanted, fill, match, holes, satisfied, filled, Opened, behind, open-at, spreadAt, removeAt, absorbAt, mergeAt, swapAt, orElse, distributeAt, Multiple, no-multiple, multiple, multipleOf, collected, collectBefore, collectAt, isChain, place, usable, rewrite}
+use Rattle.rules.specs.Instances.{Filled, hole, first-of, second-of, over-none, over-one, over-two, Holds, Chain, scalar-sums, scalar-products, sums, Loose, loose-chain, loose-delta, Sum, of-scalars, of-arrays, Picks, spread, summand, factor, Instance, equals, spreads, removes, absorbs, merges, collects, swaps, distributes}
+use Rattle.rules.specs.Rewrite.{nameless, isHead, sortOf, wanted, fill, match, holes, satisfied, filled, Opened, behind, open-at, spreadAt, removeAt, absorbAt, mergeAt, swapAt, orElse, distributeAt, Multiple, no-multiple, multiple, multipleOf, collected, collectBefore, collectAt, isChain, isLoose, place, usable, rewrite}
 use Rattle.rules.proofs.Known.{either, is-head, head-is}
 use Rattle.rules.proofs.Good.{met, inOrder, below, asked, flat, asksNone, ofWords, Good, both, all-three, fine, good}
 use Rattle.rules.proofs.Lines.{not-so, sort-is, fill-is, condition-is}
@@ -48,6 +48,11 @@ unfolding isChain
 is-chain scalar-sums n = rw (is-head scalar-sum n)
 is-chain scalar-products n = or-second (isHead scalar-sum scalar-product n) _ (rw (is-head scalar-product n))
 is-chain sums n = or-second (isHead scalar-sum add n) _ (or-second (isHead scalar-product add n) _ (is-head add n))
+
+is-loose : {l : Label} → Loose l → (n : ℕ) → isLoose l n ≡ true
+unfolding isLoose
+is-loose (loose-chain {l} c) n = or-second (isHead delta l n) _ (is-chain c n)
+is-loose loose-delta n = rw (is-head delta n)
 
 other-sum : (n : ℕ) → isHead scalar-sum add n ≡ false
 unfolding isHead word
@@ -99,7 +104,7 @@ complete W g (removes {l} {c} b f a h) = rw (is-head l _, open-⧺, is-head c _,
 complete W g (absorbs b a) = rw (is-head scalar-product _, open-⧺, is-head scalar-zero _)
 complete W g (merges {l} b f a h) = rw (is-chain h _, open-⧺, is-head l _)
 complete W g (collects {u} {v} b m a c d x) = rw (is-head add _) (collects-found u v b m a c d x)
-complete W g (swaps {l} b a t u h) = rw (is-chain h _, open-⧺)
+complete W g (swaps {l} b a t u h) = rw (is-loose h _, open-⧺)
 complete W g (distributes {l} s f x) = rw (picks-usable (child 1) 0 1 (refl, refl), is-head big-sum _, picks-place (child 1) 0 1 (refl, refl)) (distributes-found s f x)
 
 pub unique : {Γ : Context} → WellFormed Γ → {r : Rule} {i j : ℕ} {p q q′ : Tree} → Good r → Instance Γ r i j p q → Instance Γ r i j p q′ → q ≡ q′
@@ -243,6 +248,10 @@ chain-of m f h =
     (either (isHead scalar-product m (count f)) _ (λ t. rw (← (head-is scalar-product m f refl h t)) scalar-products)
     (λ t. rw (← (head-is add m f refl h t)) sums))
 
+loose-of : (m : Label) (f : Forest) → Formed (node m f) → isLoose m (count f) ≡ true → Loose m
+unfolding isLoose
+loose-of m f h = either (isHead delta m (count f)) _ (λ t. rw (← (head-is delta m f refl h t)) loose-delta) (λ t. loose-chain (chain-of m f h t))
+
 pub chain-nameless : {m : Label} → Chain m → nameless m ≡ true
 chain-nameless scalar-sums = refl
 chain-nameless scalar-products = refl
@@ -258,7 +267,7 @@ merges-sound {m} h z c (there b (node d f) a k n) x =
     instance-at n z (rw (k, ← y)) (cc (t .1)) (merges b f a c)
 
 swaps-sound : {Γ : Context} {m : Label} {i j : ℕ} {f : Forest} {q : Tree} {o : Opened}
-    → j ≡ 0 → Chain m → At f i o → swapAt m o ≡ some q → Instance Γ swapping i j (node m f) q
+    → j ≡ 0 → Loose m → At f i o → swapAt m o ≡ some q → Instance Γ swapping i j (node m f) q
 unfolding swapAt
 swaps-sound z c (too-far l) x = no-answer x
 swaps-sound z c (there b t none k n) x = no-answer x
@@ -361,9 +370,9 @@ sound W {i} {j} (collecting u v) (node m f) g h t e =
     let c = cond-some (isHead add m (count f)) _ e in
     collects-sound h (head-is add m f refl h (c .0)) (at f j) (c .1)
 sound W {i} {j} swapping (node m f) g h t e =
-    let c = cond-some (eqb j 0 && isChain m (count f)) _ e in
-    let b = both (eqb j 0) (isChain m (count f)) (c .0) in
-    swaps-sound (eqb-true j 0 (b .0)) (chain-of m f h (b .1)) (at f i) (c .1)
+    let c = cond-some (eqb j 0 && isLoose m (count f)) _ e in
+    let b = both (eqb j 0) (isLoose m (count f)) (c .0) in
+    swaps-sound (eqb-true j 0 (b .0)) (loose-of m f h (b .1)) (at f i) (c .1)
 sound W {i} {j} distributing (node m f) g h t e =
     let c = cond-some (eqb j 0 && (usable (child 1) i && isHead big-sum m (count f))) _ e in
     let b = all-three (eqb j 0) (usable (child 1) i) (isHead big-sum m (count f)) (c .0) in

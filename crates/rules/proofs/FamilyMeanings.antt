@@ -7,8 +7,10 @@ use Rattle.algebra.proofs.Alike.{≈-refl, ≈-sym, ≈-trans, ≡→≈, add-�
 use Rattle.algebra.proofs.Shapes.{same-rows, same-columns}
 use Rattle.algebra.proofs.Linear.{scale-one, add-scale}
 use Rattle.algebra.proofs.Scalars as Scalars
+use Rattle.algebra.proofs.Deltas.{delta-sym}
+use Rattle.algebra.proofs.Combined.{scalar-≈}
 use Rattle.algebra.proofs.Semirings.{one-mul, zero-mul}
-use Rattle.term.specs.Heads.{Label, scalar-zero, scalar-sum, scalar-product, scale, add}
+use Rattle.term.specs.Heads.{Label, scalar-zero, scalar-sum, scalar-product, delta, scale, add}
 use Rattle.term.specs.Trees.{Tree, Forest, node, none, _▹_, _⧺_, count}
 use Rattle.types.specs.Sorts.{Sort, Context}
 use Rattle.types.specs.Rules.{_⊢_∶_, _⊢*_∶_, every-none, sca-0, sca-1, ket-0, bra-0, opt-0, WellFormed}
@@ -17,9 +19,9 @@ use Rattle.meaning.specs.Meaning.{times, stands*}
 use Rattle.meaning.specs.Sorted.{Fits}
 use Rattle.meaning.proofs.Shapes.{shape}
 use Rattle.rules.specs.Table.{Summand, plain, scaled}
-use Rattle.rules.specs.Instances.{Chain, sums as sum-chains, summand, factor}
+use Rattle.rules.specs.Instances.{Chain, sums as sum-chains, Loose, loose-chain, loose-delta, summand, factor}
 use Rattle.rules.proofs.Forests.{arrays, Of, of-sum, of-product, of-kets, of-bras, of-operators, Fitting, scalar-zeros, scalar-ones, ket-zeros, bra-zeros, operator-zeros, around, links}
-use Rattle.rules.proofs.FamilyTypes.{merge-keeps, remove-keeps, swap-keeps, collected-typed, collect-keeps}
+use Rattle.rules.proofs.FamilyTypes.{merge-keeps, remove-keeps, one-pair, swap-keeps, collected-typed, collect-keeps}
 use Rattle.rules.proofs.Gatherings.{sums, products}
 use Rattle.rules.proofs.Gathered.{gather, gather-swap, gather-merge, gather-collect, sum-chain, whole-of, op-add}
 use Rattle.rules.proofs.Lines.{value}
@@ -36,10 +38,10 @@ module _ {R : Type 0} {𝓐 : Arithmetic R} (𝓡 : StarSemiring 𝓐) {Γ : Con
         let w = whole-of 𝓡 W F (k .of) in
         ≈-trans (w .whole f (k .some) (k .every)) (≈-trans (same (k .of) (k .every)) (≈-sym (w .whole g (m .some) (m .every))))
 
-    pub swap-means : (b : Forest) (t u : Tree) (a : Forest) → Γ ⊢ node l (b ⧺ t ▹ u ▹ a) ∶ S → value Γ 𝓡 χ (node l (b ⧺ t ▹ u ▹ a)) ≈ value Γ 𝓡 χ (node l (b ⧺ u ▹ t ▹ a))
+    chain-swap-means : (b : Forest) (t u : Tree) (a : Forest) → Γ ⊢ node l (b ⧺ t ▹ u ▹ a) ∶ S → value Γ 𝓡 χ (node l (b ⧺ t ▹ u ▹ a)) ≈ value Γ 𝓡 χ (node l (b ⧺ u ▹ t ▹ a))
     unfolding _⧺_
-    swap-means b t u a d =
-        chain-means _ _ d (swap-keeps b t u a c d) λ o xs.
+    chain-swap-means b t u a d =
+        chain-means _ _ d (swap-keeps b t u a (loose-chain c) d) λ o xs.
         let w = whole-of 𝓡 W F o in
         let r = around b t (u ▹ a) xs in
         let q = around none u a (r .back) in
@@ -62,6 +64,17 @@ module _ {R : Type 0} {𝓐 : Arithmetic R} (𝓡 : StarSemiring 𝓐) {Γ : Con
         let w = whole-of 𝓡 W F o in
         let r = around b t a xs in
         gather-merge 𝓡 W F S (w .G) (w .shaped) (r .front) (r .here) every-none (r .back) (unit o (r .here))
+
+  -- ---- 170
+  delta-means : (t u : Tree) → value Γ 𝓡 χ (node delta (t ▹ u ▹ none)) ≈ value Γ 𝓡 χ (node delta (u ▹ t ▹ none))
+  unfolding value
+  delta-means t u = scalar-≈ 𝓡 (delta-sym 𝓡 _ _)
+
+  pub swap-means : {l : Label} {S : Sort} → Loose l → (b : Forest) (t u : Tree) (a : Forest) → Γ ⊢ node l (b ⧺ t ▹ u ▹ a) ∶ S
+      → value Γ 𝓡 χ (node l (b ⧺ t ▹ u ▹ a)) ≈ value Γ 𝓡 χ (node l (b ⧺ u ▹ t ▹ a))
+  unfolding _⧺_
+  swap-means (loose-chain c) b t u a d = chain-swap-means c b t u a d
+  swap-means loose-delta b t u a d = let p = one-pair b t u a d in rw (p .0, p .1) (delta-means t u)
 
   -- ---- 51 to 54
   -- a summand is shape 𝓐 W F factor times shape 𝓐 W F X

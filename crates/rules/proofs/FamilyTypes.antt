@@ -4,16 +4,16 @@ use mathlib.Core.Bool.{false}
 use mathlib.Core.List.{List}
 use Prim.Native.Nat.{suc, _<_}
 use native.Mathlib.Omega.{arith}
-use Rattle.term.specs.Heads.{Label, scalar-zero, scalar-sum, scalar-product, scale, add, big-sum}
+use Rattle.term.specs.Heads.{Label, scalar-zero, scalar-sum, scalar-product, delta, scale, add, big-sum}
 use Rattle.term.specs.Trees.{Tree, Forest, node, none, _▹_, _⧺_, count}
 use Rattle.term.proofs.Parsing.{count-⧺}
 use Rattle.types.specs.Sorts.{Sort, scalar, Context}
-use Rattle.types.specs.Rules.{_⊢_∶_, _⊢*_∶_, every-none, every-more, sca-0, sca-1, sca-add, ket-scr, bra-scr, opt-scr, sum-over, WellFormed}
+use Rattle.types.specs.Rules.{_⊢_∶_, _⊢*_∶_, every-none, every-more, sca-0, sca-1, sca-add, sca-delta, ket-scr, bra-scr, opt-scr, sum-over, WellFormed}
 use Rattle.types.specs.Inside.{binds}
 use Rattle.types.proofs.Indices.{later-same}
 use Rattle.types.proofs.Sound.{Each, each-more, node-of}
 use Rattle.rules.specs.Table.{Summand, plain, scaled}
-use Rattle.rules.specs.Instances.{Chain, scalar-sums, sums, scalar-products, Sum, of-scalars, of-arrays, spread, summand, factor}
+use Rattle.rules.specs.Instances.{Chain, scalar-sums, sums, scalar-products, Loose, loose-chain, loose-delta, Sum, of-scalars, of-arrays, spread, summand, factor}
 use Rattle.rules.proofs.Forests.{Of, of-product, of-kets, of-bras, of-operators, every-⧺, around, chained, links}
 
 pub some-of : (f g : Forest) → 0 < count f → 0 < count (f ⧺ g)
@@ -21,6 +21,20 @@ some-of f g h = rw (count-⧺ f g) (omega arith)
 
 pub some-behind : (f g : Forest) → 0 < count g → 0 < count (f ⧺ g)
 some-behind f g h = rw (count-⧺ f g) (omega arith)
+
+-- a delta has two children, of one sort
+two : {Γ : Context} {S : Sort} {f : Forest} → Γ ⊢ node delta f ∶ S → count f ≡ 2
+unfolding count
+two (sca-delta x y) = refl
+
+pub one-pair : {Γ : Context} {S : Sort} (b : Forest) (t u : Tree) (a : Forest) → Γ ⊢ node delta (b ⧺ t ▹ u ▹ a) ∶ S → (b ≡ none) × (a ≡ none)
+unfolding count _⧺_
+one-pair none t u none d = (refl, refl)
+one-pair none t u (v ▹ a) d = absurd (omega (arith, two d))
+one-pair (s ▹ b) t u a d = absurd (omega (arith, two d, count-⧺ b (t ▹ u ▹ a)))
+
+delta-keeps : {Γ : Context} {S : Sort} (t u : Tree) → Γ ⊢ node delta (t ▹ u ▹ none) ∶ S → Γ ⊢ node delta (u ▹ t ▹ none) ∶ S
+delta-keeps t u (sca-delta x y) = sca-delta y x
 
 module _ {Γ : Context} {S : Sort} where
   pub merge-keeps : {l : Label} (b f a : Forest) → Chain l → Γ ⊢ node l (b ⧺ node l f ▹ a) ∶ S → Γ ⊢ node l (b ⧺ f ⧺ a) ∶ S
@@ -36,9 +50,10 @@ module _ {Γ : Context} {S : Sort} where
       let r = around b t a (k .every) in
       chained (k .of) h (every-⧺ (r .front) (r .back))
 
-  pub swap-keeps : {l : Label} (b : Forest) (t u : Tree) (a : Forest) → Chain l → Γ ⊢ node l (b ⧺ t ▹ u ▹ a) ∶ S → Γ ⊢ node l (b ⧺ u ▹ t ▹ a) ∶ S
+  pub swap-keeps : {l : Label} (b : Forest) (t u : Tree) (a : Forest) → Loose l → Γ ⊢ node l (b ⧺ t ▹ u ▹ a) ∶ S → Γ ⊢ node l (b ⧺ u ▹ t ▹ a) ∶ S
   unfolding count _⧺_
-  swap-keeps b t u a c d =
+  swap-keeps b t u a loose-delta d = let p = one-pair b t u a d in rw (p .0, p .1) (delta-keeps t u (rw (p .0, p .1) at d))
+  swap-keeps b t u a (loose-chain c) d =
       let k = links c d in
       let r = around b t (u ▹ a) (k .every) in
       let q = around none u a (r .back) in

@@ -9,7 +9,7 @@ use Rattle.types.specs.Sorts.{Sort, index, basis, scalar, ket, bra, operator, I
 use Rattle.types.specs.Rules.{_⊢_∶_, type-var, basis-var, term-var, base-prod, pair-base, bound-var, sum-over, WellFormed}
 use Rattle.rules.specs.Patterns.{Pattern, #_, first, second, _⟨⟩, _⟨_⟩, _⟨_∣_⟩}
 use Rattle.rules.specs.Table.{Rule, _⇒_▷_, spreading, removing, absorbing, merging, collecting, swapping, distributing, ruleOf}
-use Rattle.rules.specs.Instances.{Chain, scalar-sums, scalar-products, sums, Filled, hole, first-of, second-of, over-none, over-one, over-two, Instance, equals, spreads, removes, absorbs, merges, collects, swaps, distributes}
+use Rattle.rules.specs.Instances.{Chain, scalar-sums, scalar-products, sums, Loose, loose-chain, loose-delta, Filled, hole, first-of, second-of, over-none, over-one, over-two, Instance, equals, spreads, removes, absorbs, merges, collects, swaps, distributes}
 use Rattle.rules.proofs.Every.{rule-passes}
 use Rattle.rules.proofs.Lines.{not-so}
 
@@ -86,6 +86,10 @@ chain-head scalar-sums = refl
 chain-head scalar-products = refl
 chain-head sums = refl
 
+loose-head : {l : Label} → Loose l → term-head l ≡ true
+loose-head (loose-chain c) = chain-head c
+loose-head loose-delta = refl
+
 module _ {Γ : Context} (W : WellFormed Γ) {S : Sort} where
   left-type : {θ : ℕ → Tree} {l : Pattern} {p : Tree} → left-head l ≡ true → Filled Γ θ l p → Γ ⊢ p ∶ S → IsType S
   left-type h hole d = absurd (not-so h)
@@ -102,7 +106,7 @@ module _ {Γ : Context} (W : WellFormed Γ) {S : Sort} where
   instance-type h (absorbs b a) d = type-of W S refl d
   instance-type h (merges b f a c) d = type-of W S (chain-head c) d
   instance-type h (collects b m e c k x) d = type-of W S refl d
-  instance-type h (swaps b a t u c) d = type-of W S (chain-head c) d
+  instance-type h (swaps b a t u c) d = type-of W S (loose-head c) d
   instance-type h (distributes s f x) d = type-of W S refl d
 
   pub rewritten-type : (n : ℕ) {r : Rule} {i j : ℕ} {p q : Tree} → ruleOf n ≡ some r → Instance Γ r i j p q → Γ ⊢ p ∶ S → IsType S

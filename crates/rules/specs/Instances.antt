@@ -4,7 +4,7 @@ use mathlib.Core.Bool.{Bool, true, _&&_, not}
 use mathlib.Core.List.{List, [], _∷_}
 use Prim.Native.Nat.{ℕ, _+_, _<_}
 use lib.Dec.{eqb}
-use Rattle.term.specs.Heads.{Label, scalar-zero, scalar-one, scalar-sum, scalar-product, scale, add, big-sum, bound-basis, word}
+use Rattle.term.specs.Heads.{Label, scalar-zero, scalar-one, scalar-sum, scalar-product, delta, scale, add, big-sum, bound-basis, word}
 use Rattle.term.specs.Trees.{Tree, Forest, node, none, _▹_, _⧺_, count, words}
 use Rattle.types.specs.Sorts.{Sort, ket, bra, operator, Context}
 use Rattle.types.specs.Rules.{_⊢_∶_}
@@ -43,6 +43,11 @@ pub data Chain : Label → Type 0 where
   scalar-sums : Chain scalar-sum
   scalar-products : Chain scalar-product
   sums : Chain add
+
+-- the heads whose children may change places: these, and 02, CR 2: "Delta is no longer ordered"
+pub data Loose : Label → Type 0 where
+  loose-chain : {l : Label} → Chain l → Loose l
+  loose-delta : Loose delta
 
 -- 02, CR 1: "a body that is a sum (7 or 20)"
 pub data Sum : Label → Type 0 where
@@ -89,8 +94,8 @@ pub data Instance (Γ : Context) : Rule → ℕ → ℕ → Tree → Tree → Ty
       → Instance Γ (collecting u v) (count before) (count before + 1 + count between)
       (node add (before ⧺ summand u a x ▹ between ⧺ summand v b x ▹ after))
       (node add (before ⧺ between ⧺ after ⧺ node scale (node scalar-sum (factor u a ▹ factor v b ▹ none) ▹ x ▹ none) ▹ none))
-  -- "170 exchanges children i and i + 1 of a 7, 8 or 20"
-  swaps : {l : Label} (before after : Forest) (t u : Tree) → Chain l
+  -- "170 exchanges children i and i + 1 of a 7, 8 or 20"; 02, CR 2: "rule 170 with i = 0 now also exchanges the two children of a delta"
+  swaps : {l : Label} (before after : Forest) (t u : Tree) → Loose l
       → Instance Γ swapping (count before) 0 (node l (before ⧺ t ▹ u ▹ after)) (node l (before ⧺ u ▹ t ▹ after))
   -- 02, CR 1: "182 spreads over a body that is a sum (7 or 20)"
   distributes : {l : Label} (s : Tree) (f : Forest) → Sum l → Instance Γ distributing 0 0 (node big-sum (s ▹ node l f ▹ none)) (node l (spread big-sum (s ▹ none) f none))

@@ -214,6 +214,10 @@ collectAt u v i (opened b t a) = collectBefore u v t a (open-at b i)
 unfoldable pub isChain : Label → ℕ → Bool
 isChain m n = isHead scalar-sum m n || (isHead scalar-product m n || isHead add m n)
 
+unfoldable pub isLoose : Label → ℕ → Bool
+unfolding isChain
+isLoose m n = isHead delta m n || isChain m n
+
 unfoldable pub place : Which → ℕ → ℕ
 place (child k) i = k
 place child-i i = i
@@ -230,5 +234,5 @@ rewrite Γ (removing l c) i j (node m f) = cond (eqb j 0 && isHead l m (count f)
 rewrite Γ absorbing i j (node m f) = cond (eqb j 0 && isHead scalar-product m (count f)) (absorbAt (open-at f i)) refused
 rewrite Γ merging i j (node m f) = cond (eqb j 0 && isChain m (count f)) (mergeAt m (open-at f i)) refused
 rewrite Γ (collecting u v) i j (node m f) = cond (isHead add m (count f)) (collectAt u v i (open-at f j)) refused
-rewrite Γ swapping i j (node m f) = cond (eqb j 0 && isChain m (count f)) (swapAt m (open-at f i)) refused
+rewrite Γ swapping i j (node m f) = cond (eqb j 0 && isLoose m (count f)) (swapAt m (open-at f i)) refused
 rewrite Γ distributing i j (node m f) = cond (eqb j 0 && (usable (child 1) i && isHead big-sum m (count f))) (distributeAt (open-at f (place (child 1) i))) refused

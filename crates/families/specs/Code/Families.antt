@@ -25,9 +25,12 @@ pub record Counted (h : ℕ) (l : Label) : Type 0 where
   pub number : h ≡ headNumber l
   pub chain : Chain l
 
--- 01, of 170: "of a 7, 8 or 20"
+-- 01, of 170: "of a 7, 8 or 20"; 02, CR 2: "the two children of a delta"
 abbrev pub chainWord : ℕ → Bool
 chainWord w = eqb (w / 256) 7 || (eqb (w / 256) 8 || eqb (w / 256) 20)
+
+abbrev pub looseWord : ℕ → Bool
+looseWord w = eqb (w / 256) 10 || chainWord w
 
 -- the families that may leave a part deeper
 unfoldable pub deepensIn : ℕ → Bool

@@ -6,7 +6,7 @@ use borrow.Author.Needs.{needs}
 use borrow.Author.Tests.{not-true, not-false}
 use lib.ListN.{getD}
 use Rattle.words.proofs.Runs.{appended}
-use Rattle.families.specs.Code.Families.{chainWord}
+use Rattle.families.specs.Code.Families.{looseWord}
 use Rattle.families.proofs.Split.{some-word, no-child, Split, split, child-bounds}
 use Rattle.families.proofs.Next.{Next, next-child}
 use Rattle.families.proofs.Written.{refuses, writes}
@@ -14,9 +14,9 @@ use Rattle.families.proofs.Swapped.{swaps-other, swaps-outside, swaps-l
 use Rattle.families.proofs.chains.swap.Statement.{statement}
 use Rattle.families.proofs.chains.swap.Tie as tie
 
--- the part is a chain
-chained : (c : tie.Else1) → chainWord (getD (c .before .before .before .before .before .args .ws .now) 0 0) ≡ true
-chained c = sym (c .before .is-chain .ensures) ∙ not-false _ (c .if1 .left)
+-- the part's children may change places
+loose : (c : tie.Else1) → looseWord (getD (c .before .before .before .before .before .args .ws .now) 0 0) ≡ true
+loose c = sym (c .before .is-loose .ensures) ∙ not-false _ (c .if1 .left)
 
 -- the part at the child that was found, and at the next
 found : (c : tie.Else2) → Split (c .before .before .before .before .before .before .before .before .args .ws .now) (c .before .before .before .before .before .before .before .before .args .i) (c .before .before .child-at .result .start) (c .before .before .child-at .result .end)
@@ -25,18 +25,18 @@ found c = split (c .before .before .before .before .before .before .before .befo
 next : (c : tie.After-part-end) → Next (found (c .before .before)) (c .part-end .result)
 next c = next-child (found (c .before .before)) (c .before .if3 .left) (c .part-end .ensures)
 
-shared-slice-read-is-chain : tie.Need-shared-slice-read-is-chain
-shared-slice-read-is-chain c = some-word (c .before .before .before .pre)
+shared-slice-read-is-loose : tie.Need-shared-slice-read-is-loose
+shared-slice-read-is-loose c = some-word (c .before .before .before .pre)
 
-is-chain-requires : tie.Need-is-chain-requires
-is-chain-requires c κs = search needs
+is-loose-requires : tie.Need-is-loose-requires
+is-loose-requires c κs = search needs
 
 refused-requires : tie.Need-refused-requires
 refused-requires c κs = search needs
 
 returns : tie.Need-returns
 returns c = λ Γ.
-    let other = sym (c .before .before .is-chain .ensures) ∙ not-true _ (c .before .if1 .taken) in
+    let other = sym (c .before .before .is-loose .ensures) ∙ not-true _ (c .before .if1 .taken) in
     refuses _ _ _ _ (swaps-other Γ _ (c .before .before .before .before .before .before .pre) other) (c .refused .ensures) refl
 
 child-at-requires : tie.Need-child-at-requires
@@ -79,14 +79,14 @@ returns-4 c = λ Γ.
     let s = found (c .before .before .before .before .before .before .before .before .before .before .before .before .before .before .before .before .before .before) in
     let n = next (c .before .before .before .before .before .before .before .before .before .before .before .before .before .before .before .before) in
     let written = swapped-written s n (appended (c .before .before .before .before .before .before .before .before .before .before .before .before .before .before .append-run .ensures)) (appended (c .before .before .before .before .before .before .before .before .before .before .append-run2 .ensures)) (appended (c .before .before .before .before .before .before .append-run3 .ensures)) (appended (c .before .before .append-run4 .ensures)) in
-    writes _ _ _ _ _ (swaps-children s n Γ (chained (c .before .before .before .before .before .before .before .before .before .before .before .before .before .before .before .before .before .before .before .before .before))) (swapped-few s n) refl written
+    writes _ _ _ _ _ (swaps-children s n Γ (loose (c .before .before .before .before .before .before .before .before .before .before .before .before .before .before .before .before .before .before .before .before .before))) (swapped-few s n) refl written
 
 pub swap-spec : {M : Type 1} → statement M
 swap-spec =
     tie.close
     (tie.spec
-    shared-slice-read-is-chain
-    is-chain-requires
+    shared-slice-read-is-loose
+    is-loose-requires
     refused-requires
     returns
     child-at-requires
