@@ -1,13 +1,13 @@
 #!/usr/bin/env bash
-# A proved program against the checker on random cases: checker/compare.sh KIND [SEED [COUNT]], from the root of the repository. KIND is
-# replay, typing, step or run.
+# The proved program of cases against the checker on random ones: checker/compare.sh KIND [SEED [COUNT]], from the root of the repository.
+# KIND is replay, typing, step or run.
 set -euo pipefail
 kind=${1:?KIND is replay, typing, step or run}
 seed=${2:-1}
 count=${3:-10000}
-program=target/bin/${kind}_cases
+program=target/bin/cases
 if [ ! -x "$program" ]; then
-    echo "no $program: run 'rt check ${kind}_cases' first" >&2
+    echo "no $program: run 'rt check cases' first" >&2
     exit 1
 fi
 (cd checker && cargo build --release --offline --quiet)

@@ -1,10 +1,11 @@
 //! Cases as lines of decimal numbers, for programs that read no text.
 //!
-//! A case begins with its declarations: the number of types; the number of
-//! bases and of each the length and words of its index; the number of variables
-//! and of each its kind (0 scalar, 1 ket, 2 bra, 3 operator) and the lengths and
-//! words of two indices. What a slice begins with is the length that is told,
-//! the number of words and the words.
+//! A case begins with the number of its sort, by which one program answers all
+//! sorts. But for a file its declarations follow: the number of types; the
+//! number of bases and of each the length and words of its index; the number of
+//! variables and of each its kind (0 scalar, 1 ket, 2 bra, 3 operator) and the
+//! lengths and words of two indices. What a slice begins with is the length that
+//! is told, the number of words and the words.
 //!
 //! A typing case has these of its slice. A step case has them, the number of
 //! words of the whole slice, the word behind the first ones, the rule, the
@@ -81,6 +82,7 @@ fn numbered(
         let bytes = fs::read(&input).map_err(|error| told(error.to_string()))?;
         let stored = fs::read_to_string(input.with_extension("out"))
             .map_err(|error| told(error.to_string()))?;
+        cases.extend(format!("{} ", number_of(sort)).into_bytes());
         cases.extend(of_case(&bytes).map_err(told)?);
         let answer = of_answer(&bytes, Stored(stored.lines()));
         answers += &line(&answer.ok_or_else(|| told("no answer".into()))?);
@@ -89,6 +91,17 @@ fn numbered(
         return Err(format!("{}: no {} cases", folder.display(), sort.folder()));
     }
     Ok((cases, answers))
+}
+
+/// The number that a case begins with. 1 is that of the cases of terms as words,
+/// which are no files of a folder.
+fn number_of(sort: Sort) -> usize {
+    match sort {
+        Sort::Typing => 2,
+        Sort::Step => 3,
+        Sort::Run => 4,
+        Sort::Replay => 5,
+    }
 }
 
 fn line(numbers: &[usize]) -> String {

@@ -54,20 +54,39 @@ fn every_case_has_its_row() {
     }
 }
 
-/// Holds what a program is run on to the stored cases.
-fn hold(program: &str, (cases, answers): numbers::Numbered) {
-    let folder = Path::new(env!("CARGO_MANIFEST_DIR")).join("../crates").join(program);
-    let stored = |name: &str| fs::read(folder.join(name)).expect(name);
-    let advice = "see `checker numbers` in README.md";
-    assert!(cases == stored("stdin"), "the stdin of {program}: {advice}");
-    assert!(answers.as_bytes() == stored("stdout"), "the stdout of {program}: {advice}");
+/// The stored cases of every sort as numbers, in the order of their numbers.
+fn numbered() -> (Vec<u8>, Vec<u8>) {
+    let folder = Path::new(env!("CARGO_MANIFEST_DIR")).join("vectors");
+    let (mut cases, mut answers) = (Vec::new(), Vec::new());
+    for of_sort in [numbers::typing, numbers::step, numbers::run, numbers::replay] {
+        let (more_cases, more_answers) = of_sort(&folder).expect("the cases as numbers");
+        cases.extend(more_cases);
+        answers.extend(more_answers.into_bytes());
+    }
+    (cases, answers)
+}
+
+/// The lines that stand in a file of the proved program before the stored cases
+/// with which it ends.
+fn lines_before(cases: &[u8], name: &str) -> Vec<String> {
+    let folder = Path::new(env!("CARGO_MANIFEST_DIR")).join("../crates/cases");
+    let stored = fs::read(folder.join(name)).expect(name);
+    let before = stored.strip_suffix(cases);
+    let before = before.unwrap_or_else(|| panic!("{name}: see `checker numbers` in README.md"));
+    let text = std::str::from_utf8(before).expect(name);
+    text.lines().map(String::from).collect()
 }
 
 #[test]
-fn the_programs_are_run_on_the_stored_cases() {
-    let folder = Path::new(env!("CARGO_MANIFEST_DIR")).join("vectors");
-    hold("replay_cases", numbers::replay(&folder).expect("the cases as numbers"));
-    hold("typing_cases", numbers::typing(&folder).expect("the cases as numbers"));
-    hold("step_cases", numbers::step(&folder).expect("the cases as numbers"));
-    hold("run_cases", numbers::run(&folder).expect("the cases as numbers"));
+fn the_program_is_run_on_the_stored_cases() {
+    let (cases, answers) = numbered();
+    // The cases of terms as words, which have names and comments, come first.
+    let mut by_hand = lines_before(&cases, "stdin");
+    by_hand.retain(|line| !line.starts_with('#'));
+    let answered = lines_before(&answers, "stdout");
+    assert_eq!(by_hand.len(), answered.len());
+    for (case, answer) in by_hand.iter().zip(&answered) {
+        let (name, _) = answer.split_once('=').expect(answer);
+        assert!(case.starts_with(&format!("1 {name}=")), "{case} is answered by {answer}");
+    }
 }

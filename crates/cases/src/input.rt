@@ -7,31 +7,18 @@ ghost use Rattle.cases.specs.Slices.{filled, Front, Taken};
 use crate::output;
 use libc::STDIN_FILENO;
 
-// A number, and whether the input ended behind it.
+// A number, and the byte behind it.
 pub struct Number {
     pub value: usize,
-    pub last: bool,
+    pub behind: usize,
 }
 
 // No byte is this, so it can stand for the end of the input.
-const END: usize = 256;
+pub const END: usize = 256;
 
 const LINE_FEED: usize = 10;
 
-const HASH: usize = 35;
-
 const EQUALS: usize = 61;
-
-// The places of reading a name: at the start of a line, in a line that is a comment, inside the name, behind it, and at the end of the input.
-const LINE: usize = 0;
-
-const COMMENT: usize = 1;
-
-const INSIDE: usize = 2;
-
-const BEHIND: usize = 3;
-
-const OVER: usize = 4;
 
 fn wide(byte: u8) -> usize {
     byte as usize
@@ -79,13 +66,13 @@ pub fn number_or_end() -> Number {
         if 9 < more {
             return Number {
                 value,
-                last: byte == END,
+                behind: byte,
             };
         }
         value = grown(value, more);
         turns -= 1;
     }
-    Number { value, last: false }
+    Number { value, behind: END }
 }
 
 pub fn next_number() -> usize {
@@ -110,46 +97,38 @@ pub fn next_count() -> usize
     output::wide(narrow(next_number()))
 }
 
-// Where reading a name stands behind one more byte. A line is a comment by its first byte, and a name ends with its `=`.
-fn moved(place: usize, byte: usize) -> usize {
-    if byte == END {
-        return OVER;
-    }
-    if place == COMMENT {
-        return if byte == LINE_FEED { LINE } else { COMMENT };
-    }
-    if byte == EQUALS {
-        return BEHIND;
-    }
-    if byte == HASH {
-        return if place == LINE { COMMENT } else { INSIDE };
-    }
-    INSIDE
-}
-
-// The bytes of a name, its `=` too, are written as they are taken; those of a comment are not.
-fn one_byte(place: usize) -> usize {
+// The next byte, which is written too where it is to be copied.
+fn pass(is_copied: bool) -> usize {
     let byte = take();
-    let next = moved(place, byte);
-    if COMMENT < next {
+    if is_copied {
         output::byte(byte);
     }
-    next
+    byte
 }
 
-// Takes the comments before a case and its name, which is copied to standard output, and says whether there was one. The loop counts down
-// as that of `number_or_end` does.
-pub fn next_name() -> bool {
-    let mut place = LINE;
+// Takes the bytes up to the first that is `last`, this too, or up to the end of the input. The loop counts down as that of `number_or_end`
+// does.
+fn pass_until(last: usize, is_copied: bool) {
     let mut turns = u64::MAX;
     while turns > 0 {
-        place = one_byte(place);
-        if INSIDE < place {
-            return place == BEHIND;
+        let byte = pass(is_copied);
+        if byte == last || byte == END {
+            return;
         }
         turns -= 1;
     }
-    false
+}
+
+// Takes the name of a case, its `=` too, and copies it to standard output.
+pub fn copy_name() {
+    pass_until(EQUALS, true);
+}
+
+// Takes the rest of a line of which `taken` was the last byte that was taken: nothing where that ended the line.
+pub fn skip_line(taken: usize) {
+    if taken != LINE_FEED {
+        pass_until(LINE_FEED, false);
+    }
 }
 
 // A word that has no place in the slice is dropped.
