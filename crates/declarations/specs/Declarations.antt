@@ -16,7 +16,7 @@ use Rattle.term.specs.declared.terms.Names.{Names}
 use Rattle.term.specs.Trees.{Tree}
 use Rattle.term.specs.Parts.{parse, part, treeIn}
 use Rattle.term.specs.Terms.{maxIndex, maxNames}
-use Rattle.types.specs.Sorts.{Sort, scalar, ket, bra, operator, Context}
+use Rattle.types.specs.Sorts.{Sort, scalar, ket, bra, operator, Context, inBodies}
 
 abbrev pub size : ℕ
 size = 6179
@@ -50,6 +50,10 @@ variableIn ds a =
 unfoldable pub contextIn : List ℕ → Context
 unfolding upTo basisIn variableIn
 contextIn ds = record { types = getD ds 0 0; bases = upTo (getD ds 1 0) (basisIn ds); variables = upTo (getD ds 2 0) (variableIn ds); bound = [] }
+
+-- the same in the bodies of sums that have these for an index, the innermost first
+abbrev pub contextAt : List ℕ → List Tree → Context
+contextAt ds bs = inBodies bs (contextIn ds)
 
 -- ---- when they are good. 01, code 7: "a declaration is not exactly the indices wanted, or breaks a limit or a name"
 -- a word of an index: a declared type name, or a product's head

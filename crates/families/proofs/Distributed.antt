@@ -1,5 +1,5 @@
 -- Distributing is one of two spreadings: over a sum of scalars, or else over one of arrays.
-use mathlib.Core.Path.{_≡_, refl, sym}
+use mathlib.Core.Path.{_≡_, refl}
 use mathlib.Core.Logic.{_≢_}
 use mathlib.Core.Bool.{Bool, true, false, cond, _&&_}
 use mathlib.Core.List.{List}
@@ -8,6 +8,7 @@ use Prim.Native.Nat.{ℕ}
 use native.Mathlib.Omega.{arith}
 use borrow.Author.Tests.{ne-eqb, eq-eqb}
 use lib.Dec.{eqb}
+use Rattle.words.specs.Listed.{orElse}
 use Rattle.term.specs.Heads.{Label, scalar-sum, add, big-sum, word}
 use Rattle.term.specs.Trees.{Tree, node, count, words}
 use Rattle.term.specs.Parts.{parse, treeIn}
@@ -15,7 +16,7 @@ use Rattle.types.specs.Sorts.{Context}
 use Rattle.rules.specs.Table.{child, spreading, distributing}
 use Rattle.rules.specs.Instances.{scalar-sums, sums}
 use Rattle.rules.specs.Steps.{few}
-use Rattle.rules.specs.Rewrite.{isHead, open-at, place, usable, spreadAt, orElse, distributeAt, rewrite}
+use Rattle.rules.specs.Rewrite.{isHead, open-at, place, usable, spreadAt, distributeAt, rewrite}
 use Rattle.families.specs.declared.writing.Rewritten.{Rewritten}
 use Rattle.families.specs.Code.Families.{Named, Counted, Spreads, Distributes}
 use Rattle.families.specs.Writing.{Wrote, Writes}

@@ -8,12 +8,13 @@ use native.Mathlib.Omega.{arith}
 use borrow.Author.Tests.{eqb-true, leb-true, le-leb, ne-eqb}
 use lib.Dec.{eqb, leb}
 use lib.ListN.{length, getD}
+use Rattle.words.specs.Listed.{lacks}
 use Rattle.term.specs.declared.parts.Side.{Side}
 use Rattle.term.specs.declared.parts.Side.the-variants.{Left, Right}
 use Rattle.rules.specs.Steps.{Move}
 use Rattle.text.specs.Pieces.{Text, space, parted}
 use Rattle.text.specs.Numbers.{isDigit, decimal, atMost}
-use Rattle.text.proofs.Cutting.{lacks, allLack, pieces-join, parted-one, joined, joined-parted}
+use Rattle.text.proofs.Cutting.{allLack, pieces-join, parted-one, joined, joined-parted}
 use Rattle.text.proofs.Written.{decimal-lacks}
 use Rattle.format.specs.Files.{sideLetter, stepText, maxField, isStep}
 use Rattle.format.specs.Reading.{sideIn, moveOf, moveIn}

@@ -6,6 +6,7 @@ use Prim.Native.Nat.{ℕ, _+_, _/_, _%_}
 use native.Mathlib.Omega.{arith}
 use borrow.Author.Tests.{leb-true, le-leb, ne-eqb}
 use lib.Dec.{eqb, leb}
+use Rattle.words.specs.Listed.{lacks}
 use Rattle.term.specs.declared.parts.Side.{Side}
 use Rattle.term.specs.declared.parts.Side.the-variants.{Left, Right}
 use Rattle.rules.specs.Steps.{Move}
@@ -14,7 +15,7 @@ use Rattle.text.specs.Pieces.{Text, space, colon, ended}
 use Rattle.text.specs.Numbers.{isDigit, allDigits, decimal}
 use Rattle.text.specs.Tokens.{carries, token, spaced, tokens}
 use Rattle.text.proofs.Decimals.{digit-is, decimal-digits}
-use Rattle.text.proofs.Cutting.{lacks, allLack}
+use Rattle.text.proofs.Cutting.{allLack}
 use Rattle.format.specs.Files.{Key, Variable, File, keyText, letter, sideLetter, variableText, stepText}
 use Rattle.format.proofs.Values.{Value, types, basis, variable, left, right, step, end}
 use Rattle.format.proofs.Lines.{Taken, taken}

@@ -8,10 +8,11 @@ use native.Mathlib.Omega.{arith}
 use borrow.Author.Tests.{eq-eqb, ne-eqb, lt-leb, leb-true, leb-false, not-true, not-false}
 use lib.ListN.{length, take, drop, replicate, length-append, length-drop, drop-of-length-le}
 use lib.Seq.{take-at, drop-drop, drop-append-add}
+use Rattle.words.specs.Listed.{lacks}
 use Rattle.bytes.specs.Bytes.{indexOf}
 use Rattle.text.specs.Bytes.{lineFeed, badLine}
 use Rattle.text.specs.Pieces.{Text, linesOf, ended, pieceEnd}
-use Rattle.text.proofs.Cutting.{lacks, allLack, index-lacks, lines-lack, ended-lines}
+use Rattle.text.proofs.Cutting.{allLack, index-lacks, lines-lack, ended-lines}
 use Rattle.cursor.specs.declared.Span.{Span}
 use Rattle.cursor.specs.Reading.{atEnd, spanAt}
 use Rattle.cursor.proofs.Spans.{span-end, span-next, span-last}

@@ -9,6 +9,7 @@ use native.Mathlib.Omega.{arith}
 use borrow.Author.Tests.{eqb-true, eq-eqb, ne-eqb, lt-ltb, ltb-true}
 use lib.Dec.{eqb, ltb}
 use lib.ListN.{length}
+use Rattle.words.specs.Listed.{orElse}
 use Rattle.words.specs.Words.{sameWords}
 use Rattle.words.proofs.Runs.{same-words}
 use Rattle.term.specs.Heads.{Label, word, heads, labelled, reading, scalar-zero, scalar-sum, scalar-product, delta, scale, add, big-sum}
@@ -20,9 +21,9 @@ use Rattle.types.specs.Rules.{_⊢_∶_, WellFormed}
 use Rattle.rules.specs.Patterns.{Pattern, #_, first, second, _⟨⟩, _⟨_⟩, _⟨_∣_⟩}
 use Rattle.rules.specs.Table.{Condition, any, a-ket, a-bra, an-operator, unused, Which, child, child-i, Summand, plain, scaled, Rule, _⇒_▷_, spreading, removing, absorbing, merging, collecting, swapping, distributing}
 use Rattle.rules.specs.Instances.{Filled, hole, first-of, second-of, over-none, over-one, over-two, Holds, Chain, scalar-sums, scalar-products, sums, Loose, loose-chain, loose-delta, Sum, of-scalars, of-arrays, Picks, spread, summand, factor, Instance, equals, spreads, removes, absorbs, merges, collects, swaps, distributes}
-use Rattle.rules.specs.Rewrite.{nameless, isHead, sortOf, wanted, fill, match, holes, satisfied, filled, Opened, behind, open-at, spreadAt, removeAt, absorbAt, mergeAt, swapAt, orElse, distributeAt, Multiple, no-multiple, multiple, multipleOf, collected, collectBefore, collectAt, isChain, isLoose, place, usable, rewrite}
+use Rattle.rules.specs.Rewrite.{nameless, isHead, sortOf, wanted, fill, match, holes, satisfied, filled, Opened, behind, open-at, spreadAt, removeAt, absorbAt, mergeAt, swapAt, distributeAt, Multiple, no-multiple, multiple, multipleOf, collected, collectBefore, collectAt, isChain, isLoose, place, usable, rewrite}
 use Rattle.rules.proofs.Known.{either, is-head, head-is}
-use Rattle.rules.proofs.Good.{met, inOrder, below, asked, flat, asksNone, ofWords, Good, both, all-three, fine, good}
+use Rattle.rules.proofs.Good.{below, asked, flat, asksNone, ofWords, Good, both, all-three, fine, good}
 use Rattle.rules.proofs.Lines.{not-so, sort-is, fill-is, condition-is}
 use Rattle.rules.proofs.Opening.{At, too-far, there, at, open-⧺}
 use Rattle.rules.proofs.Matching.{Agrees, fill-agrees, meets, no-answer, cond-some, same-part, none-formed, AllTyped, matched}

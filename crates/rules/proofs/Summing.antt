@@ -1,6 +1,6 @@
 -- The rules of sums over a basis keep the meaning.
 use mathlib.Core.Path.{_≡_, refl, sym, _∙_, ap}
-use mathlib.Core.Bool.{Bool, true, false, _&&_, not, and-eq-true-iff}
+use mathlib.Core.Bool.{true, not, and-eq-true-iff}
 use mathlib.Core.Option.{some}
 use mathlib.Core.List.{List, [], _∷_, _++_}
 use Prim.Native.Nat.{ℕ, zero, suc, _+_, _≤_, _<_}
@@ -12,23 +12,24 @@ use Rattle.algebra.specs.Matrices.{Matrix, _≈_, Shape, kronecker-delta, ident
 use Rattle.algebra.proofs.Alike.{≈-refl, ≡→≈, ≈-trans, add-≈}
 use Rattle.algebra.proofs.Ranges.{sum-zeros, sum-sums, sum-projectors, sum-deltas}
 use Rattle.algebra.proofs.Shapes.{same-rows, same-columns, shape-sum-matrices}
+use Rattle.words.specs.Listed.{lacks}
 use Rattle.term.specs.Heads.{Label, scalar-zero, scalar-sum, add, delta, basis-ket, basis-bra, outer, big-sum, bound-basis}
-use Rattle.term.specs.Trees.{Tree, Forest, node, none, _▹_, _⧺_, count, words}
+use Rattle.term.specs.Trees.{Tree, Forest, node, none, _▹_, _⧺_, words}
 use Rattle.types.specs.Sorts.{Sort, index, basis, scalar, ket, bra, operator, Context, bind}
-use Rattle.types.specs.Rules.{_⊢_∶_, _⊢*_∶_, every-none, every-more, basis-var, term-var, bound-var, pair-base, sca-0, sca-delta, sca-add, ket-add, ket-base, bra-base, bra-add, opt-add, opt-outer, sum-over, WellFormed}
-use Rattle.types.proofs.Indices.{index-is, bind-well}
-use Rattle.meaning.specs.Choices.{Choice, push, run, Meaning, a-term, an-index, a-basis}
-use Rattle.meaning.specs.Meaning.{first, second, plus, total, product, meaningOf, meaning, dimension, declared, names, stands, stands*}
+use Rattle.types.specs.Rules.{_⊢_∶_, _⊢*_∶_, every-none, every-more, basis-var, term-var, bound-var, pair-base, sca-0, sca-delta, sca-add, ket-add, bra-add, opt-add, sum-over, WellFormed}
+use Rattle.types.proofs.Indices.{bind-well}
+use Rattle.meaning.specs.Choices.{Choice, push, run, Meaning, a-term, a-basis}
+use Rattle.meaning.specs.Meaning.{first, second, plus, product, meaningOf, meaning, dimension, declared, names, stands, stands*}
 use Rattle.meaning.specs.Sorted.{Fits, Proper}
 use Rattle.meaning.proofs.Shapes.{plus-shape, fits-run, sum-stands, sum-index, shape}
-use Rattle.rules.specs.Instances.{Sum, of-scalars, of-arrays, lacks, isUnused, spread}
+use Rattle.rules.specs.Instances.{Sum, of-scalars, of-arrays, isUnused, spread}
 use Rattle.rules.proofs.Lines.{value, Means}
 
 lacks-++ : (w : ℕ) (xs ys : List ℕ) → lacks w (xs ++ ys) ≡ true → (lacks w xs ≡ true) × (lacks w ys ≡ true)
 unfolding lacks
 lacks-++ w [] ys e = (refl, e)
 lacks-++ w (x ∷ xs) ys e =
-    let p = and-eq-true-iff (not (eqb w x)) _ .0 e in
+    let p = and-eq-true-iff (not (eqb x w)) _ .0 e in
     let r = lacks-++ w xs ys (p .1) in
     (rw (p .0) (r .0), r .1)
 

@@ -1,9 +1,8 @@
 -- When a part is an instance of a rule's left side with indices i and j, and what it becomes. Document 01, "The rules by number", from "Rules go left to right only" on.
 use mathlib.Core.Path.{_≡_}
-use mathlib.Core.Bool.{Bool, true, _&&_, not}
-use mathlib.Core.List.{List, [], _∷_}
+use mathlib.Core.Bool.{Bool, true}
 use Prim.Native.Nat.{ℕ, _+_, _<_}
-use lib.Dec.{eqb}
+use Rattle.words.specs.Listed.{lacks}
 use Rattle.term.specs.Heads.{Label, scalar-zero, scalar-one, scalar-sum, scalar-product, delta, scale, add, big-sum, bound-basis, word}
 use Rattle.term.specs.Trees.{Tree, Forest, node, none, _▹_, _⧺_, count, words}
 use Rattle.types.specs.Sorts.{Sort, ket, bra, operator, Context}
@@ -22,10 +21,6 @@ pub data Filled (Γ : Context) (θ : ℕ → Tree) : Pattern → Tree → Type 0
   over-two : {l : Label} {p q : Pattern} {t u : Tree} → Filled Γ θ p t → Filled Γ θ q u → Filled Γ θ (l ⟨ p ∣ q ⟩) (node l (t ▹ u ▹ none))
 
 -- no word of a part is 28:0, so that it does not use the basis that is bound last
-unfoldable pub lacks : ℕ → List ℕ → Bool
-lacks w [] = true
-lacks w (v ∷ vs) = not (eqb w v) && lacks w vs
-
 unfoldable pub isUnused : Tree → Bool
 unfolding lacks words word
 isUnused s = lacks (word (bound-basis 0) 0) (words s)

@@ -6,6 +6,7 @@ use mathlib.Core.Option.{Option, some, none as refused}
 use Prim.Native.Nat.{ℕ, zero, suc}
 use lib.Dec.{eqb, ltb}
 use lib.ListN.{length, getD}
+use Rattle.words.specs.Listed.{orElse}
 use Rattle.words.specs.Words.{sameWords}
 use Rattle.term.specs.Heads.{Label, type-name, basis-name, variable, index-product, pair, scalar-zero, scalar-one, scalar-sum, scalar-product, conjugate, delta, dot, zero-ket, zero-bra, zero-operator, identity, basis-ket, basis-bra, adjoint, scale, add, tensor, mulk, mulb, outer, mulo, big-sum, bound-basis, word}
 use Rattle.term.specs.Trees.{Tree, Forest, node, none, _▹_, _⧺_, count, words}
@@ -175,10 +176,6 @@ swapAt l (opened b t none) = refused
 swapAt l (opened b t (u ▹ a)) = some (node l (b ⧺ u ▹ t ▹ a))
 
 -- over a sum of scalars, or else over one of arrays
-unfoldable pub orElse : Option Tree → Option Tree → Option Tree
-orElse refused b = b
-orElse (some t) b = some t
-
 unfoldable pub distributeAt : Opened → Option Tree
 unfolding spreadAt orElse
 distributeAt o = orElse (spreadAt big-sum scalar-sum scalar-sum o) (spreadAt big-sum add add o)

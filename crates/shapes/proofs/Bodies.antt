@@ -1,56 +1,31 @@
 -- The walk back from a place: it passes whole parts, so that from a child it comes to the head above; and at every place of a term it finds what is bound there.
 use mathlib.Core.Path.{_≡_, refl, sym, _∙_, ap}
-use mathlib.Core.Bool.{Bool, true, false, cond, _&&_}
+use mathlib.Core.Bool.{Bool, true, false, cond, _&&_, and-false}
 use mathlib.Core.List.{List, [], _∷_, _++_, append-assoc}
 use Prim.Native.Nat.{ℕ, zero, suc, _+_, _-_, _/_, _%_, _<_}
 use native.Mathlib.Decide.{decLt}
 use native.Mathlib.Nat.{zero-add}
 use native.Mathlib.Omega.{arith}
 use borrow.Author.Tests.{eqb-true, eq-eqb, ne-eqb, lt-ltb, le-ltb}
-use lib.Dec.{eqb, eqb·suc-zero}
+use lib.Dec.{eqb}
 use lib.ListN.{length, getD, drop, length-append}
 use lib.Seq.{drop-drop, drop-at}
-use Rattle.term.specs.Heads.{Label, big-sum, Head, unknown, named, fixed, counted, heads, unread, labelled, reading, read}
+use Rattle.term.specs.Heads.{Label, big-sum, heads, unread, labelled, reading, read}
 use Rattle.term.specs.Trees.{Tree, Forest, node, none, _▹_, count, _⧺_, words, words*, Formed, Formed*, subtree}
 use Rattle.term.specs.Terms.{maxBodies}
-use Rattle.term.proofs.Readings.{Every, every-at, _⨾_}
 use Rattle.term.proofs.Parsing.{count-⧺, words*-⧺, Formed*-⧺}
-use Rattle.types.specs.Sorts.{Sort, Context, inBodies}
+use Rattle.types.specs.Sorts.{Sort, Context}
 use Rattle.types.specs.Rules.{_⊢_∶_, WellFormed}
 use Rattle.types.specs.Inside.{binds, behindFirst, later, inside, inside*}
 use Rattle.types.specs.Strays.{ninth}
 use Rattle.types.proofs.Strays.{typed-no-stray}
-use Rattle.types.proofs.Walk.{nextIn}
+use Rattle.types.proofs.Labels.{binds-word}
+use Rattle.types.proofs.Walk.{nextIn, next-same}
 use Rattle.shapes.specs.Bodies.{found, stepBack, back, indexBy, boundIn, Bound, nowhere}
 use Rattle.shapes.specs.Statements.{BoundInside}
 use Rattle.shapes.proofs.Begun.{at-front, part-of}
 
--- ---- which heads bind: 27 and no other
-abbrev Binding : ℕ → Head → Type 0
-Binding k unknown = Unit {0}
-Binding k (named l c) = (a : ℕ) → binds (l a) ≡ eqb k 27
-Binding k (fixed l c cs) = binds l ≡ eqb k 27
-Binding k (counted l c c′) = binds l ≡ eqb k 27
-
-binding : Every Binding 0 heads
-unfolding heads binds
-binding =
-    tt ⨾ (λ a. refl) ⨾ refl ⨾ (λ a. refl) ⨾ refl ⨾ refl ⨾ refl ⨾ refl ⨾ refl ⨾ refl ⨾ refl ⨾ refl ⨾ refl ⨾ refl ⨾ refl ⨾ refl ⨾ refl ⨾ refl ⨾ refl ⨾ refl ⨾ refl ⨾ refl ⨾ refl
-    ⨾ refl ⨾ refl ⨾ refl ⨾ (λ a. refl) ⨾ refl ⨾ (λ a. refl) ⨾ tt
-
-binding-of : (k : ℕ) (h : Head) → Binding k h → (a : ℕ) (l : Label) (n : ℕ) → reading h a ≡ labelled l n → binds l ≡ eqb k 27
-unfolding reading
-binding-of k unknown x a l n e = cc
-binding-of k (named f c) x a l n e = let z : f a ≡ l = cc in rw (← z) (x a)
-binding-of k (fixed m c cs) x zero l n e = let z : m ≡ l = cc in rw (← z) x
-binding-of k (fixed m c cs) x (suc a) l n e = let e′ : unread ≡ labelled l n = rw eqb·suc-zero at e in cc
-binding-of k (counted m c c′) x zero l n e = cc
-binding-of k (counted m c c′) x (suc a) l n e = let e′ : labelled m (suc a) ≡ labelled l n = rw eqb·suc-zero at e in let z : m ≡ l = cc in rw (← z) x
-
-pub binds-word : (w : ℕ) (l : Label) (n : ℕ) → read w ≡ labelled l n → binds l ≡ eqb (w / 256) 27
-unfolding read
-binds-word w l n e = binding-of (w / 256) (getD heads (w / 256) unknown) (rw zero-add at (every-at Binding (λ k. tt) heads 0 binding (w / 256))) (w % 256) l n e
-
+-- ---- a head that binds is a sum
 sum-read : (w : ℕ) (l : Label) (n : ℕ) → read w ≡ labelled l n → w / 256 ≡ 27 → (l ≡ big-sum) × (n ≡ 2)
 unfolding read heads reading
 sum-read w l n e z = go (eqb (w % 256) 0) (rw z at e)
@@ -71,26 +46,6 @@ roomy {Γ} W l cs S d e =
       | yes h ↦ h
       | no h ↦ absurd (typed-no-stray Γ W (node l cs) S d 0 (node l cs) refl (rw e (ninth {n = length (Γ .bound)} (omega arith))))
     ]
-
--- the others of a row stand in one context
-next-same : (Δ : Context) (p : Forest) → nextIn Δ Δ p ≡ Δ
-unfolding nextIn
-next-same Δ none = refl
-next-same Δ (t ▹ p) = refl
-
--- the context of a part is that of the whole with other bodies around
-pub later-bodies : (Γ : Context) (l : Label) (cs : Forest) → later Γ l cs ≡ inBodies (later Γ l cs .bound) Γ
-unfolding later behindFirst
-later-bodies Γ l cs = go (binds l) cs
-  where
-    go : (b : Bool) (cs : Forest) → cond b (behindFirst Γ cs) Γ ≡ inBodies (cond b (behindFirst Γ cs) Γ .bound) Γ
-    go true none = refl
-    go true (s ▹ f) = refl
-    go false cs = refl
-
-and-false : (b : Bool) → (b && false) ≡ false
-and-false true = refl
-and-false false = refl
 
 module _ (ws : List ℕ) (outer : ℕ → List ℕ) where
   -- ---- whole parts are passed

@@ -10,25 +10,25 @@ use Rattle.words.proofs.Listed.{upTo-some}
 use Rattle.term.specs.Heads.{Label, heads, labelled, word, read, resultOf}
 use Rattle.term.specs.Trees.{Tree, Forest, node, none, _▹_, count, _⧺_, words, Formed, depth}
 use Rattle.term.specs.Parts.{part}
-use Rattle.types.specs.Sorts.{Sort, index, basis, scalar, ket, bra, operator, Context, inBodies}
+use Rattle.types.specs.Sorts.{Sort, index, basis, scalar, ket, bra, operator, Context}
 use Rattle.types.specs.Rules.{_⊢_∶_, type-var, basis-var, term-var, bound-var, sca-0, sca-1, WellFormed}
 use Rattle.types.specs.Inside.{later}
 use Rattle.types.specs.TypeOf.{gives, conclude}
-use Rattle.types.proofs.Indices.{index-is, bodies-well}
+use Rattle.types.proofs.Indices.{index-is, bodies-well, later-bodies}
 use Rattle.types.proofs.Sound.{Row, each-none, each-more, node-of}
 use Rattle.types.proofs.Walk.{nextIn}
 use Rattle.typebook.specs.Code.Shapes.{shapeOf, numberOf}
 use Rattle.typebook.specs.Code.Lines.{rules, ruleAt, concluded, isSum, allAlike}
 use Rattle.typebook.proofs.OnShapes.{shapes}
 use Rattle.typebook.proofs.Rows.{lastOf, Roomy, children-law}
-use Rattle.declarations.specs.Declarations.{basisIn, variableIn, contextIn, goodDeclarations}
+use Rattle.declarations.specs.Declarations.{basisIn, variableIn, contextIn, contextAt, goodDeclarations}
 use Rattle.declarations.proofs.Entries.{declarations, well-formed}
 use Rattle.shapes.specs.Bodies.{Bound}
 use Rattle.shapes.specs.Reading.{declaredIndex, childAt, classRead, classAt, digit, leafIndex, sideRead, sideAt, Begins, sideIn, Read}
 use Rattle.shapes.specs.Statements.{Reads, BoundInside}
 use Rattle.shapes.proofs.Begun.{part-of, first-word, second-at, begins-first, begins-second}
 use Rattle.shapes.proofs.Bodies as Bodies
-use Rattle.shapes.proofs.Bodies.{binds-is, roomy, later-bodies, down}
+use Rattle.shapes.proofs.Bodies.{binds-is, roomy, down}
 use Rattle.shapes.proofs.Declared.{basis-declared, class-declared, side-declared}
 use Rattle.shapes.proofs.Digits.{row-at, no-variable}
 use Rattle.shapes.proofs.Nodes.{some-index, told, node-class, node-side}
@@ -41,7 +41,7 @@ each-count (each-more a r) = ap suc (each-count r)
 module _ (ds ws : List ℕ) (outer : ℕ → List ℕ) (good : goodDeclarations ds ≡ true) where
   -- with these bound around
   abbrev Γ : List Tree → Context
-  Γ bs = inBodies bs (contextIn ds)
+  Γ bs = contextAt ds bs
 
   W : (bs : List Tree) → WellFormed (Γ bs)
   W bs = bodies-well (well-formed ds good) bs

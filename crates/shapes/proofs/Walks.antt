@@ -13,9 +13,9 @@ use Rattle.term.specs.Heads.{Label, Reading, unread, labelled, read, arityOf}
 use Rattle.term.specs.Parts.{part}
 use Rattle.term.proofs.Scan.{read-children, read-unknown}
 use Rattle.types.specs.Inside.{binds}
+use Rattle.types.proofs.Labels.{binds-word}
 use Rattle.shapes.specs.declared.Walked.{Walked}
 use Rattle.shapes.specs.Bodies.{Walk, found, outside, stepBack, back, walked, indexBy, boundIn, nowhere, outerAt}
-use Rattle.shapes.proofs.Bodies.{binds-word}
 
 -- what it finds is before the place from which it set out
 abbrev Before : ℕ → Walk → Type 0

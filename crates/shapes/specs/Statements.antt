@@ -5,10 +5,10 @@ use mathlib.Core.List.{List, [], _++_}
 use Prim.Native.Nat.{ℕ, _<_}
 use lib.ListN.{length, drop}
 use Rattle.term.specs.Trees.{Tree, words, Formed}
-use Rattle.types.specs.Sorts.{Sort, Context, inBodies}
+use Rattle.types.specs.Sorts.{Sort, Context}
 use Rattle.types.specs.Rules.{_⊢_∶_}
 use Rattle.types.specs.Inside.{inside}
-use Rattle.declarations.specs.Declarations.{contextIn, goodDeclarations}
+use Rattle.declarations.specs.Declarations.{contextAt, goodDeclarations}
 use Rattle.shapes.specs.Bodies.{Bound, nowhere}
 use Rattle.shapes.specs.Reading.{Begins, Read}
 
@@ -18,7 +18,7 @@ Reads =
     (ds ws : List ℕ) (outer : ℕ → List ℕ) (budget at : ℕ) (bs : List Tree) (t : Tree) (S : Sort)
     → goodDeclarations ds ≡ true
     → Begins (drop at ws) budget t
-    → inBodies bs (contextIn ds) ⊢ t ∶ S
+    → contextAt ds bs ⊢ t ∶ S
     → Bound ws outer at bs
     → Read ds ws outer budget at S
 

@@ -1,7 +1,7 @@
 -- The condition of a rule, by its number: of what kind the part in hole 0 is, as it is read off it, or that the part in hole 1 has no such word.
 use mathlib.Core.Path.{_≡_, refl, sym, _∙_, ap}
 use mathlib.Core.Logic.{_≢_, _⊎_, inl, inr}
-use mathlib.Core.Bool.{Bool, true, false}
+use mathlib.Core.Bool.{true, false}
 use mathlib.Core.List.{List}
 use Prim.Native.Nat.{ℕ, _+_, _-_, _≤_, _<_}
 use native.Mathlib.Numerals.{add-one}
@@ -10,13 +10,15 @@ use borrow.Author.Tests.{ltb-true, eq-eqb, ne-eqb}
 use lib.Dec.{eqb}
 use lib.ListN.{length, take, drop, getD, drop-of-length-le}
 use lib.Seq.{drop-cons}
+use Rattle.words.specs.Listed.{lacks}
 use Rattle.term.specs.Heads.{word}
 use Rattle.term.specs.Trees.{Tree, words}
 use Rattle.types.specs.Sorts.{Sort, index, basis, scalar, ket, bra, operator, Context}
 use Rattle.types.proofs.Indices.{bodies-well}
 use Rattle.declarations.proofs.Entries.{well-formed}
+use Rattle.declarations.specs.Declarations.{contextAt}
 use Rattle.rules.specs.Table.{Condition, any, a-ket, a-bra, an-operator, unused}
-use Rattle.rules.specs.Instances.{lacks, isUnused}
+use Rattle.rules.specs.Instances.{isUnused}
 use Rattle.rules.specs.Rewrite.{sortOf, wanted, satisfied, holes}
 use Rattle.rules.proofs.Lines.{not-so, sort-is}
 use Rattle.rules.proofs.Good.{asked, ofWords}
@@ -26,7 +28,7 @@ use Rattle.matcher.specs.declared.Match.{Match}
 use Rattle.matcher.specs.Matching.{startOf, endOf}
 use Rattle.term.specs.Terms.{maxDepth}
 use Rattle.shapes.specs.Reading.{classAt}
-use Rattle.step.specs.Code.Building.{around, Caught, AllSorted}
+use Rattle.step.specs.Code.Building.{Caught, AllSorted}
 use Rattle.step.proofs.Indices.{class-is}
 use Rattle.step.proofs.Pieces.{caught-run, caught-sort}
 
@@ -105,13 +107,13 @@ any-met Γ unused θ e = absurd (omega arith)
 
 -- ---- the words of a part, one after the other
 module _ (w : ℕ) (ws : List ℕ) (k : ℕ) where
-  pub lacks-here : k < length ws → w ≡ getD ws k 0 → lacks w (drop k ws) ≡ false
+  pub lacks-here : k < length ws → getD ws k 0 ≡ w → lacks w (drop k ws) ≡ false
   unfolding lacks
-  lacks-here h e = rw (drop-cons ws k 0 h, eq-eqb w (getD ws k 0) e)
+  lacks-here h e = rw (drop-cons ws k 0 h, eq-eqb (getD ws k 0) w e)
 
-  pub lacks-more : k < length ws → w ≢ getD ws k 0 → lacks w (drop k ws) ≡ lacks w (drop (k + 1) ws)
+  pub lacks-more : k < length ws → getD ws k 0 ≢ w → lacks w (drop k ws) ≡ lacks w (drop (k + 1) ws)
   unfolding lacks
-  lacks-more h n = rw (drop-cons ws k 0 h, ne-eqb w (getD ws k 0) n, add-one)
+  lacks-more h n = rw (drop-cons ws k 0 h, ne-eqb (getD ws k 0) w n, add-one)
 
   pub lacks-end : length ws ≤ k → lacks w (drop k ws) ≡ true
   unfolding lacks
@@ -135,14 +137,14 @@ own-satisfied Γ an-operator θ e = absurd (omega arith)
 own-satisfied Γ unused θ e = refl
 
 module _ {ds ws : List ℕ} {m : Match} (x : Caught ds ws m) (k : Condition) (n : ℕ) (number : n ≡ conditionNumber k) where
-  pub own-met : 1 < m .held → n ≡ 4 → lacks 7168 (take (endOf m 1 - startOf m 1) (drop (startOf m 1) ws)) ≡ satisfied (around ds (x .bodies)) k (holes (x .trees))
-  own-met met e = rw (caught-run x 1 met) (own-satisfied (around ds (x .bodies)) k (holes (x .trees)) (sym number ∙ e))
+  pub own-met : 1 < m .held → n ≡ 4 → lacks 7168 (take (endOf m 1 - startOf m 1) (drop (startOf m 1) ws)) ≡ satisfied (contextAt ds (x .bodies)) k (holes (x .trees))
+  own-met met e = rw (caught-run x 1 met) (own-satisfied (contextAt ds (x .bodies)) k (holes (x .trees)) (sym number ∙ e))
 
   module _ (kind : n ≢ 0) (other : n ≢ 4) (typed : (ofWords k ≡ true) ⊎ AllSorted x) (met : 0 < m .held) where
     all : AllSorted x
     all = kind-typed k (λ z. kind (number ∙ z)) (λ z. other (number ∙ z)) typed
 
-    pub kind-met : {c : ℕ} → c ≡ classAt ds (take (length ws - startOf m 0) (drop (startOf m 0) ws)) maxDepth 0 → eqb c (3 + n) ≡ satisfied (around ds (x .bodies)) k (holes (x .trees))
+    pub kind-met : {c : ℕ} → c ≡ classAt ds (take (length ws - startOf m 0) (drop (startOf m 0) ws)) maxDepth 0 → eqb c (3 + n) ≡ satisfied (contextAt ds (x .bodies)) k (holes (x .trees))
     kind-met {c} e =
         let h = caught-sort x 0 met all in
         let W = bodies-well (well-formed ds (x .good)) (x .bodies) in
@@ -150,4 +152,4 @@ module _ {ds ws : List ℕ} {m : Match} (x : Caught ds ws m) (k : Condition) (n 
         let b : conditionNumber k ≢ 4 = λ z. other (number ∙ z) in
         let S = h .sorted .0 in
         ap (λ (i : ℕ). eqb i (3 + n)) (class-is ds (x .bodies) (x .outer) _ h c e) ∙ ap (λ (i : ℕ). eqb (numberOf (shapeOf S .class)) (3 + i)) number
-        ∙ (kind-wanted S k a b ∙ sym (ap (wanted k) (sort-is W (h .sorted .1))) ∙ kind-satisfied k a b (around ds (x .bodies)) (holes (x .trees)))
+        ∙ (kind-wanted S k a b ∙ sym (ap (wanted k) (sort-is W (h .sorted .1))) ∙ kind-satisfied k a b (contextAt ds (x .bodies)) (holes (x .trees)))

@@ -1,10 +1,10 @@
 -- An equation at a part: from the match of its left side to the words of its right side.
-use mathlib.Core.Path.{_≡_, refl, sym, _∙_, ap}
+use mathlib.Core.Path.{_≡_, refl, sym, _∙_}
 use mathlib.Core.Logic.{_≢_, _⊎_, inl, inr, ⊎-elim}
 use mathlib.Core.Bool.{Bool, true, false, _&&_, _||_, true≢false}
 use mathlib.Core.List.{List, [], _∷_, _++_}
 use mathlib.Core.Option.{Option, some, none}
-use Prim.Native.Nat.{ℕ, _+_, _-_, _*_, _/_, _≤_, _<_}
+use Prim.Native.Nat.{ℕ, _+_, _-_, _*_, _/_, _≤_}
 use native.Mathlib.Omega.{arith}
 use borrow.Author.Tests.{le-leb, eq-eqb, ne-eqb, lt-ltb, ltb-true}
 use lib.Arith.{digits-div}
@@ -13,13 +13,14 @@ use lib.ListN.{length, take, drop, replicate, length-append}
 use Rattle.words.specs.Words.{overlaid}
 use Rattle.term.specs.Heads.{word}
 use Rattle.term.specs.Terms.{maxChildren}
-use Rattle.term.specs.Trees.{Tree, Forest, node, none as no-tree, _▹_, count, words, words*, Formed}
+use Rattle.term.specs.Trees.{Tree, Forest, node, none as no-tree, _▹_, count, words, words*}
 use Rattle.term.proofs.Scan.{count-words}
 use Rattle.types.specs.Sorts.{Context}
 use Rattle.types.specs.Rules.{WellFormed}
 use Rattle.types.specs.TypeOf.{typeOf}
 use Rattle.types.proofs.Indices.{bodies-well}
 use Rattle.declarations.proofs.Entries.{well-formed}
+use Rattle.declarations.specs.Declarations.{contextAt}
 use Rattle.rules.specs.Patterns.{Pattern, #_, first, second, _⟨⟩, _⟨_⟩, _⟨_∣_⟩}
 use Rattle.rules.specs.Table.{Condition, _⇒_▷_, ruleOf}
 use Rattle.rules.specs.Rewrite.{sortOf, fill, match, holes, satisfied, filled, rewrite}
@@ -37,7 +38,7 @@ use Rattle.rulebook.proofs.Copied.{sides-short, left-copied, right-copied}
 use Rattle.matcher.specs.declared.Match.{Match}
 use Rattle.matcher.specs.Matching.{Holds, Found, holds, stops, matchOf}
 use Rattle.matcher.proofs.Theorems.{matches}
-use Rattle.step.specs.Code.Building.{around, chosenIndex, allAsk, indexless, Caught, AllSorted}
+use Rattle.step.specs.Code.Building.{chosenIndex, allAsk, indexless, Caught, AllSorted}
 use Rattle.step.specs.Code.Site.{Site, Equation}
 use Rattle.step.proofs.Right.{ask-words}
 use Rattle.step.proofs.Indices.{chosen-short}
@@ -96,7 +97,7 @@ none-by (stops z) w = refl
 
 module _ (n : ℕ) {k : Condition} {l r : Pattern} (rule : ruleOf n ≡ some (k ⇒ l ▷ r)) {ds term : List ℕ} {place : ℕ} {ws : List ℕ} (s : Site ds term place ws) where
   abbrev Γ : Context
-  Γ = around ds (s .bodies)
+  Γ = contextAt ds (s .bodies)
 
   pub well : WellFormed Γ
   well = bodies-well (well-formed ds (s .good)) (s .bodies)

@@ -12,12 +12,13 @@ use Rattle.term.specs.Terms.{maxDepth, maxIndex}
 use Rattle.term.specs.Trees.{Tree, words}
 use Rattle.term.specs.Parts.{parse, treeIn}
 use Rattle.types.specs.Sorts.{Sort, index, basis, scalar, ket, bra, operator, Context}
-use Rattle.types.specs.Rules.{_⊢_∶_, Proper, WellFormed}
+use Rattle.types.specs.Rules.{Proper, WellFormed}
 use Rattle.types.specs.TypeOf.{Typed, typed, untyped, typeOf}
 use Rattle.types.proofs.Indices.{bodies-well}
 use Rattle.types.proofs.Complete.{complete}
 use Rattle.types.proofs.Proper.{proper, index-short}
 use Rattle.types.proofs.Sound.{sound}
+use Rattle.declarations.specs.Declarations.{contextAt}
 use Rattle.rules.specs.Patterns.{no-index, firstIndex, secondIndex}
 use Rattle.rules.specs.Rewrite.{sortIn, sortOf}
 use Rattle.typebook.specs.Code.Shapes.{shapeOf, numberOf}
@@ -25,7 +26,7 @@ use Rattle.declarations.proofs.Entries.{well-formed}
 use Rattle.shapes.specs.Reading.{sideIn, Read, classAt, sideAt}
 use Rattle.shapes.proofs.Begun.{begins-tree}
 use Rattle.shapes.proofs.Theorems.{reads, index-read}
-use Rattle.step.specs.Code.Building.{around, HasSort, chosenIndex}
+use Rattle.step.specs.Code.Building.{HasSort, chosenIndex}
 
 -- ---- an index of a type is short, and so is what stands for none
 none-short : length (words no-index) ≤ maxIndex
@@ -97,7 +98,7 @@ module _ (ds : List ℕ) (bodies : List Tree) (outer : ℕ → List ℕ) (ws : L
 
   -- the index that typing finds
   abbrev pub indexOf : Bool → List ℕ
-  indexOf second = words (chosenIndex second (sortOf (around ds bodies) (treeIn (parse ws))))
+  indexOf second = words (chosenIndex second (sortOf (contextAt ds bodies) (treeIn (parse ws))))
 
   index-is : (b second : Bool) → second ≡ b → {vs : List ℕ} → vs ≡ words (chosenIndex b sort) → vs ≡ indexOf second
   index-is b second e x = rw (begins-tree (h .begins), complete (bodies-well (well-formed ds (h .good)) bodies) (h .sorted .1) 0, e) x

@@ -15,7 +15,7 @@ use lib.Seq.{drop-at}
 use Rattle.words.specs.Words.{Added}
 use Rattle.words.proofs.Runs.{to-end}
 use Rattle.term.specs.Trees.{Tree, Forest, node, none as no-tree, _▹_, count, words, words*, Formed, depth, Subtree, outside, found, subtree, replace, replace*}
-use Rattle.term.specs.Parts.{parse, first, firstDepth, part, partDepth}
+use Rattle.term.specs.Parts.{first, firstDepth, part, partDepth}
 use Rattle.term.specs.Terms.{maxWords, maxChildren}
 use Rattle.term.proofs.Parsing.{parse-words}
 use Rattle.term.proofs.Places.{place, subtree-inside, subtree-formed, subtree-depth}
@@ -23,7 +23,7 @@ use Rattle.types.specs.Sorts.{Context}
 use Rattle.types.specs.Inside.{inside}
 use Rattle.types.proofs.Indices.{inside-bodies}
 use Rattle.types.proofs.Replace.{part-typed, inside-well}
-use Rattle.declarations.specs.Declarations.{contextIn}
+use Rattle.declarations.specs.Declarations.{contextIn, contextAt}
 use Rattle.declarations.proofs.Entries.{well-formed}
 use Rattle.rules.specs.Table.{Rule, ruleOf}
 use Rattle.rules.specs.Rewrite.{rewrite}
@@ -41,7 +41,6 @@ use Rattle.families.proofs.Written.{Way, refused, done, exceeded, way, way-size
 use Rattle.families.proofs.Lines.{Ruled, unruled}
 use Rattle.shapes.specs.Bodies.{indexBy, back, boundIn, outerAt, Bound}
 use Rattle.shapes.proofs.Theorems.{bound-inside}
-use Rattle.step.specs.Code.Building.{around}
 use Rattle.step.specs.Code.Making.{Termed, Fresh, Made}
 use Rattle.step.specs.Code.Site.{Site}
 use Rattle.step.proofs.Limits.{too-many}
@@ -84,7 +83,7 @@ module _ {ds term : List ℕ} (x : Termed ds term) (k : ℕ) (below : k < length
   tail = take (length term - k) (drop k term)
 
   -- the context there, by what is bound around
-  there-context : inside (contextIn ds) (x .tree) k ≡ around ds (inside (contextIn ds) (x .tree) k .bound)
+  there-context : inside (contextIn ds) (x .tree) k ≡ contextAt ds (inside (contextIn ds) (x .tree) k .bound)
   there-context = inside-bodies (contextIn ds) (x .tree) k
 
   there-bound : Bound [] (outerAt term k) 0 (inside (contextIn ds) (x .tree) k .bound)
@@ -112,7 +111,7 @@ module _ {ds term : List ℕ} (x : Termed ds term) (k : ℕ) (below : k < length
   unfolding site
   site-tree = refl
 
-  site-context : around ds (site .bodies) ≡ inside (contextIn ds) (x .tree) k
+  site-context : contextAt ds (site .bodies) ≡ inside (contextIn ds) (x .tree) k
   unfolding site
   site-context = sym there-context
 
@@ -172,7 +171,7 @@ module _ {ds term : List ℕ} (x : Termed ds term) (s : Step) where
   abbrev Promise : List ℕ → List ℕ → Rewritten → Type 0
   Promise old out r =
       (z : Site ds term (s .place) (take (length term - s .place) (drop (s .place) term))) (rule : Rule) → ruleOf (s .rule) ≡ some rule
-      → Writes (rewrite (around ds (z .bodies)) rule (s .i) (s .j) (z .tree)) old 0 out r
+      → Writes (rewrite (contextAt ds (z .bodies)) rule (s .i) (s .j) (z .tree)) old 0 out r
 
   module _ {row : Row} (k : Ruled row (s .rule)) (below : s .place < length term) (old : List ℕ) (size : length old ≡ maxWords) (out : List ℕ) (r : Rewritten) (promise : Promise old out r) where
     abbrev here : Tree

@@ -14,9 +14,10 @@ ghost use lib.ListN.{length};
 ghost use Rattle.words.specs.Words.{Added};
 ghost use Rattle.term.specs.Trees.{Tree, words};
 ghost use Rattle.term.specs.Parts.{parse, treeIn};
+ghost use Rattle.declarations.specs.Declarations.{contextAt};
 ghost use Rattle.rules.specs.Rewrite.{sortOf};
 ghost use Rattle.shapes.specs.Bodies.{outerAt};
-ghost use Rattle.step.specs.Code.Building.{around, HasSort, chosenIndex, piece, pieces, asks, allAsk, indexless, Caught, AllSorted};
+ghost use Rattle.step.specs.Code.Building.{HasSort, chosenIndex, piece, pieces, asks, allAsk, indexless, Caught, AllSorted};
 
 // The index of the type of the part with which the words begin, written behind what stands there: an operator's second is that of its columns, and a bra's
 // only one too. Where the type has none it is 5:0, the `no-index` of `rules`. The part stands in the bodies that are around the place of the term.
@@ -30,7 +31,7 @@ fn append_index(
     at: usize,
 ) -> usize
     requires { ⌜ ((bodies : List Tree) × HasSort (now ds) bodies (outerAt (now term) place) (now part)) ⌝ }
-    ensures { λ r. ⌜ ((bodies : List Tree) → HasSort (now (ds .entry)) bodies (outerAt (now (term .entry)) place) (now (part .entry)) → Added (now (out .entry)) at (words (chosenIndex second (sortOf (around (now (ds .entry)) bodies) (treeIn (parse (now (part .entry))))))) (now (out .exit)) r) ⌝ }
+    ensures { λ r. ⌜ ((bodies : List Tree) → HasSort (now (ds .entry)) bodies (outerAt (now (term .entry)) place) (now (part .entry)) → Added (now (out .entry)) at (words (chosenIndex second (sortOf (contextAt (now (ds .entry)) bodies) (treeIn (parse (now (part .entry))))))) (now (out .exit)) r) ⌝ }
 {
     // 4 a ket, 5 a bra, 6 an operator
     let class = class_of(ds, part, 0, 64);
@@ -58,7 +59,7 @@ fn build_word(
     at: usize,
 ) -> usize
     requires { ⌜ ((x : Caught (now ds) (now ws) found) × (x .outer ≡ outerAt (now term) place) × ((indexless (word ∷ []) ≡ true) ⊎ AllSorted x)) × (asks (found .held) word ≡ true) ⌝ }
-    ensures { λ r. ⌜ ((x : Caught (now (ds .entry)) (now (ws .entry)) found) → x .outer ≡ outerAt (now (term .entry)) place → (indexless (word ∷ []) ≡ true) ⊎ AllSorted x → Added (now (out .entry)) at (piece (around (now (ds .entry)) (x .bodies)) (x .trees) word) (now (out .exit)) r) ⌝ }
+    ensures { λ r. ⌜ ((x : Caught (now (ds .entry)) (now (ws .entry)) found) → x .outer ≡ outerAt (now (term .entry)) place → (indexless (word ∷ []) ≡ true) ⊎ AllSorted x → Added (now (out .entry)) at (piece (contextAt (now (ds .entry)) (x .bodies)) (x .trees) word) (now (out .exit)) r) ⌝ }
 {
     if word / 256 < 253 {
         return append_word(out, at, word);
@@ -84,7 +85,7 @@ pub fn build_side(
     at: usize,
 ) -> usize
     requires { ⌜ ((x : Caught (now ds) (now ws) found) × (x .outer ≡ outerAt (now term) place) × ((indexless (now side) ≡ true) ⊎ AllSorted x)) × (at ≤ length (now out) + 1) × (allAsk (found .held) (now side) ≡ true) ⌝ }
-    ensures { λ r. ⌜ ((x : Caught (now (ds .entry)) (now (ws .entry)) found) → x .outer ≡ outerAt (now (term .entry)) place → (indexless (now (side .entry)) ≡ true) ⊎ AllSorted x → Added (now (out .entry)) at (pieces (around (now (ds .entry)) (x .bodies)) (x .trees) (now (side .entry))) (now (out .exit)) r) ⌝ }
+    ensures { λ r. ⌜ ((x : Caught (now (ds .entry)) (now (ws .entry)) found) → x .outer ≡ outerAt (now (term .entry)) place → (indexless (now (side .entry)) ≡ true) ⊎ AllSorted x → Added (now (out .entry)) at (pieces (contextAt (now (ds .entry)) (x .bodies)) (x .trees) (now (side .entry))) (now (out .exit)) r) ⌝ }
 {
     let mut done = at;
     let mut k = 0;

@@ -11,12 +11,13 @@ use term::heads::OWN_BASIS;
 ghost use mathlib.Core.Path.{_≡_};
 ghost use mathlib.Core.Bool.{true};
 ghost use mathlib.Core.Logic.{_⊎_};
+ghost use Rattle.words.specs.Listed.{lacks};
+ghost use Rattle.declarations.specs.Declarations.{contextAt};
 ghost use Rattle.rules.specs.Table.{Condition, _⇒_▷_};
-ghost use Rattle.rules.specs.Instances.{lacks};
 ghost use Rattle.rules.specs.Rewrite.{satisfied, holes, rewrite};
 ghost use Rattle.rules.proofs.Good.{asked, ofWords};
 ghost use Rattle.rulebook.specs.Code.Rows.{conditionNumber};
-ghost use Rattle.step.specs.Code.Building.{around, Caught, AllSorted};
+ghost use Rattle.step.specs.Code.Building.{Caught, AllSorted};
 ghost use Rattle.step.specs.Code.Site.{Site, Equation};
 ghost use Rattle.families.specs.Writing.{Writes};
 
@@ -26,7 +27,7 @@ fn is_without(ws: &[u16], word: u16) -> bool
 {
     let mut k = 0;
     while k < ws.len() {
-        if word == ws[k] {
+        if ws[k] == word {
             return false;
         }
         k += 1;
@@ -37,7 +38,7 @@ fn is_without(ws: &[u16], word: u16) -> bool
 // Whether the parts in the holes meet the condition of a rule: that in hole 0 is of a kind, or that in hole 1 does not use the basis that the part binds.
 fn is_met(ds: &[u16], ws: &[u16], found: Match, condition: u16) -> bool
     requires { ⌜ ((x : Caught (now ds) (now ws) found) × (k : Condition) × (condition ≡ conditionNumber k) × ((ofWords k ≡ true) ⊎ AllSorted x) × (asked k (found .held) ≡ true)) ⌝ }
-    ensures { λ r. ⌜ ((x : Caught (now (ds .entry)) (now (ws .entry)) found) (k : Condition) → condition ≡ conditionNumber k → (ofWords k ≡ true) ⊎ AllSorted x → r ≡ satisfied (around (now (ds .entry)) (x .bodies)) k (holes (x .trees))) ⌝ }
+    ensures { λ r. ⌜ ((x : Caught (now (ds .entry)) (now (ws .entry)) found) (k : Condition) → condition ≡ conditionNumber k → (ofWords k ≡ true) ⊎ AllSorted x → r ≡ satisfied (contextAt (now (ds .entry)) (x .bodies)) k (holes (x .trees))) ⌝ }
 {
     if condition == 0 {
         return true;
@@ -65,7 +66,7 @@ pub fn equate(
     out: &mut [u16],
 ) -> Rewritten
     requires { ⌜ Site (now ds) (now term) place (now ws) × Equation rule row ⌝ }
-    ensures { λ r. ⌜ ((s : Site (now (ds .entry)) (now (term .entry)) place (now (ws .entry))) (e : Equation rule row) → Writes (rewrite (around (now (ds .entry)) (s .bodies)) (e .condition ⇒ e .left ▷ e .right) i j (s .tree)) (now (out .entry)) 0 (now (out .exit)) r) ⌝ }
+    ensures { λ r. ⌜ ((s : Site (now (ds .entry)) (now (term .entry)) place (now (ws .entry))) (e : Equation rule row) → Writes (rewrite (contextAt (now (ds .entry)) (s .bodies)) (e .condition ⇒ e .left ▷ e .right) i j (s .tree)) (now (out .entry)) 0 (now (out .exit)) r) ⌝ }
 {
     if i != 0 {
         return refused(22);

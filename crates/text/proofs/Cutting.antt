@@ -9,15 +9,12 @@ use lib.ListN.{length, take, drop, length-append}
 use lib.Seq.{take-append-seam, drop-append-add}
 use borrow.Author.Tests.{eqb-true, eqb-false, eq-eqb, ne-eqb, not-true}
 use Rattle.bytes.specs.Bytes.{indexOf, indexAfter}
+use Rattle.words.specs.Listed.{lacks}
 use Rattle.text.specs.Bytes.{lineFeed, printable, badLine}
 use Rattle.text.specs.Pieces.{Text, push, pieces, parted, linesOf, ended}
 use Rattle.text.specs.Numbers.{isDigit, allDigits}
 
--- ---- a test that a byte stands nowhere in a text
-unfoldable pub lacks : ℕ → Text → Bool
-lacks b [] = true
-lacks b (x ∷ xs) = not (eqb x b) && lacks b xs
-
+-- ---- a byte that a text lacks
 lacks-head : (b x : ℕ) (xs : Text) → lacks b (x ∷ xs) ≡ true → eqb x b ≡ false
 unfolding lacks
 lacks-head b x xs h = not-true (eqb x b) (and-eq-true-iff (not (eqb x b)) (lacks b xs) .0 h .0)

@@ -9,13 +9,14 @@ use lib.Dec.{eqb, leb, eqb·suc-zero}
 use lib.ListN.{length, getD, length-append, List·getD-eq-default}
 use lib.Seq.{take-append-seam, drop-append-add}
 use borrow.Author.Tests.{leb-true, leb-false, le-leb, lt-ltb, le-ltb}
+use Rattle.words.specs.Listed.{lacks}
 use Rattle.term.specs.Heads.{Head, unknown, named, fixed, counted, heads, reading, read}
 use Rattle.term.proofs.Readings.{read-at}
 use Rattle.text.specs.Pieces.{Text, space, colon, parted}
 use Rattle.text.specs.Numbers.{isDigit, decimal, atMost, limitedTo, numberIn}
 use Rattle.text.specs.Tokens.{isLabelled, known, carries, bare, paired, tokenIn, both, wordsOf, tokensIn, token, spaced, tokens}
 use Rattle.text.proofs.Decimals.{number-decimal, decimal-number, decimal-digits}
-use Rattle.text.proofs.Cutting.{First, nowhere, found, first-at, lacks, lacks-more, lacks-append, digits-lack, index-lacks, index-none}
+use Rattle.text.proofs.Cutting.{First, nowhere, found, first-at, lacks-more, lacks-append, digits-lack, index-lacks, index-none}
 use Rattle.text.proofs.Cutting.{pieces-join, parted-one, some-parted, joined, joined-parted}
 
 -- ---- known words

@@ -21,7 +21,7 @@ unfolding later
 later-same Γ l cs e = rw e
 
 -- the context of a part is that of the whole, with other bodies around
-later-bodies : (Γ : Context) (l : Label) (cs : Forest) → later Γ l cs ≡ inBodies (later Γ l cs .bound) Γ
+pub later-bodies : (Γ : Context) (l : Label) (cs : Forest) → later Γ l cs ≡ inBodies (later Γ l cs .bound) Γ
 unfolding later behindFirst
 later-bodies Γ l cs = go (binds l) cs
   where

@@ -1,5 +1,6 @@
 -- The laws of sorts that the crates above cite.
 pub mod Indices
+pub mod Labels
 pub mod Complete
 pub mod Proper
 pub mod Sound

@@ -1,7 +1,6 @@
 -- The function names the first stray part, and a typed part has none.
 use mathlib.Core.Path.{_≡_, refl, sym, _∙_, ap}
-use mathlib.Core.Bool.{Bool, true, false, cond, _&&_}
-use mathlib.Core.Logic.{_↔_}
+use mathlib.Core.Bool.{Bool, true, false, cond}
 use mathlib.Core.List.{List, [], _∷_}
 use mathlib.Core.Option.{Option, some, none as nothing}
 use Prim.Native.Nat.{ℕ, zero, suc, _+_, _-_, _≤_, _<_}
@@ -9,14 +8,14 @@ use native.Mathlib.Decide.{decLt}
 use native.Mathlib.Omega.{arith}
 use borrow.Author.Tests.{lt-ltb, le-ltb, le-leb, leb-true}
 use lib.ListN.{length, getElem?}
+use Rattle.words.specs.Listed.{orElse}
 use Rattle.term.specs.Heads.{Label, type-name, basis-name, variable, bound-basis, big-sum, index-product, pair, scalar-zero, scalar-one, scalar-sum, scalar-product, conjugate, delta, dot, zero-ket, zero-bra, zero-operator, identity, basis-ket, basis-bra, adjoint, scale, add, tensor, mulk, mulb, outer, mulo, headOf}
 use Rattle.term.specs.Trees.{Tree, Forest, node, none, _▹_, words, Subtree, found, subtree, subtree*}
 use Rattle.term.proofs.Parsing.{some-words}
-use Rattle.term.specs.Terms.{maxBodies}
 use Rattle.types.specs.Sorts.{Sort, Context}
-use Rattle.types.specs.Rules.{_⊢_∶_, bound-var, sum-over, WellFormed}
+use Rattle.types.specs.Rules.{_⊢_∶_, bound-var, sum-over}
 use Rattle.types.specs.Inside.{binds, behindFirst, later, inside, inside*}
-use Rattle.types.specs.Strays.{Stray, unbound, ninth, Lowest, FirstStray, NoStray, isStray, orElse, strayOf, straysOf}
+use Rattle.types.specs.Strays.{Stray, unbound, ninth, Lowest, isStray, strayOf, straysOf}
 use Rattle.types.specs.Statements as Statement
 use Rattle.types.proofs.Replace.{part-typed}
 use Rattle.types.proofs.Place.{within}

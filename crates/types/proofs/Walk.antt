@@ -75,15 +75,15 @@ follow-join (typed s) (failed k) q = refl
 follow-join (typed s) (sorts ss) (failed k) = refl
 follow-join (typed s) (sorts ss) (sorts ts) = refl
 
--- the context of the child behind those passed
-unfoldable pub nextIn : Context → Context → Forest → Context
-nextIn Γ Δ none = Γ
-nextIn Γ Δ (t ▹ f) = Δ
+-- what the child behind those passed has, a context or a number of bodies: the first one thing, those behind it another
+unfoldable pub nextIn : {A : Type 0} → A → A → Forest → A
+nextIn x y none = x
+nextIn x y (t ▹ f) = y
 
-next-same : (Δ : Context) (cs : Forest) → nextIn Δ Δ cs ≡ Δ
+pub next-same : {A : Type 0} (x : A) (cs : Forest) → nextIn x x cs ≡ x
 unfolding nextIn
-next-same Δ none = refl
-next-same Δ (t ▹ f) = refl
+next-same x none = refl
+next-same x (t ▹ f) = refl
 
 types-⧺ : (Γ Δ : Context) (cs f : Forest) (at : ℕ) → typesOf Γ Δ at (cs ⧺ f) ≡ follow (typesOf Γ Δ at cs) (typesOf (nextIn Γ Δ cs) Δ (at + length (words* cs)) f)
 unfolding typeOf _⧺_ words nextIn

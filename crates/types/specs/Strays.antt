@@ -5,6 +5,7 @@ use mathlib.Core.Option.{Option, some, none as nothing}
 use Prim.Native.Nat.{ℕ, suc, _+_, _≤_}
 use lib.Dec.{eqb, leb}
 use lib.ListN.{length}
+use Rattle.words.specs.Listed.{orElse}
 use Rattle.term.specs.Heads.{Label, bound-basis, big-sum, headOf}
 use Rattle.term.specs.Trees.{Tree, Forest, node, none, _▹_, words, Subtree, found, subtree}
 use Rattle.term.specs.Terms.{maxBodies}
@@ -33,10 +34,6 @@ NoStray Γ t = (j : ℕ) (u : Tree) → subtree t j ≡ found u → Stray u (len
 unfoldable pub isStray : Label → ℕ → Bool
 unfolding headOf
 isStray l n = cond (eqb (headOf l 0 .0) 28) (leb n (headOf l 0 .1)) (eqb (headOf l 0 .0) 27 && leb maxBodies n)
-
-unfoldable pub orElse : Option ℕ → Option ℕ → Option ℕ
-orElse nothing b = b
-orElse (some k) b = some k
 
 unfoldable mutual
   unfolding isStray binds orElse words

@@ -2,52 +2,40 @@
 use mathlib.Core.Path.{_≡_, refl, sym, _∙_, ap}
 use mathlib.Core.Bool.{Bool, true, false, cond, _&&_, and-eq-true-iff}
 use mathlib.Core.List.{List, [], _∷_, _++_, append-assoc, append-nil}
-use mathlib.Core.Option.{Option, some, none as nothing}
+use mathlib.Core.Option.{some, none as nothing}
 use Prim.Native.Nat.{ℕ, zero, suc, _+_, _-_, _≤_, _<_}
 use native.Mathlib.Omega.{arith}
 use borrow.Author.Tests.{lt-ltb, le-ltb, ltb-true, ltb-false}
 use lib.Dec.{eqb, ltb}
 use lib.ListN.{length, take, drop, getD, getElem?, set, length-append, length-set}
-use lib.Seq.{take-take, length-take-le, getD-take, getD-at}
-use Rattle.words.specs.Words.{laid, Added}
+use lib.Seq.{take-take, length-take-le, getD-take, getD-at, drop-cons}
+use Rattle.words.specs.Words.{laid}
 use Rattle.words.proofs.Runs.{laid-in}
-use Rattle.term.specs.declared.heads.Class.{Class}
 use Rattle.term.specs.declared.heads.Class.the-variants.{Basis}
 use Rattle.term.specs.Terms.{maxBodies}
 use Rattle.term.specs.Trees.{Tree, words}
 use Rattle.term.proofs.Parsing.{some-words}
-use Rattle.types.specs.Sorts.{Sort, index, basis, scalar, ket, bra, operator, Context, bind}
+use Rattle.types.specs.Sorts.{Sort, index, basis, scalar, ket, bra, operator, Context}
 use Rattle.types.specs.Rules.{_⊢_∶_, WellFormed}
 use Rattle.types.specs.TypeOf.{indexTree}
-use Rattle.types.proofs.Indices.{index-is, index-tests, index-tested, bind-well}
+use Rattle.types.proofs.Indices.{index-is, index-tests, index-tested, bodies-well}
 use Rattle.types.proofs.Complete.{unique}
-use Rattle.declarations.specs.Declarations.{contextIn, goodDeclarations}
+use Rattle.declarations.specs.Declarations.{goodDeclarations, contextAt}
 use Rattle.declarations.proofs.Entries.{well-formed}
 use Rattle.typebook.specs.Code.Shapes.{Shape, shape, shapeOf, given, numberOf}
 use Rattle.typing.specs.declared.sorts.Sorted as S
-use Rattle.typing.specs.declared.sorts.Outcome as O
-use Rattle.typing.specs.declared.bodies.Around as B
 use Rattle.typing.specs.Code.Shapes.{run, shapeAt, Small, Room, Above, Answers}
-use Rattle.typing.specs.Code.Chains.{linkAt, indexWords, Sum, Chained, unbound, bound, Held, indexLen, recordAt, inReach}
-use Rattle.typing.specs.Code.Verdicts.{indexShape, boundShape, contextAt}
-use Rattle.typing.proofs.Lying.{run-length, run-kept, above-refl, above-laid, laid-both, shape-laid, set-laid}
+use Rattle.typing.specs.Code.Chains.{Around, aroundOf, linkAt, indexWords, Sum, Chained, unbound, bound, Held, indexLen, recordAt, inReach}
+use Rattle.typing.specs.Code.Verdicts.{indexShape, boundShape}
+use Rattle.typing.proofs.Lying.{run-length, run-both, run-kept, above-refl, above-laid, laid-both, shape-laid, set-laid}
 
 -- ---- contexts
-pub context-none : (ds : List ℕ) → contextAt ds [] ≡ contextIn ds
-unfolding contextAt contextIn
-context-none ds = refl
-
 pub well-at : (ds : List ℕ) → goodDeclarations ds ≡ true → (bs : List Tree) → WellFormed (contextAt ds bs)
-unfolding contextAt
-well-at ds good [] = rw (context-none ds) (well-formed ds good)
-well-at ds good (σ ∷ bs) = bind-well (well-at ds good bs) σ
-
-pub bodies-at : (ds : List ℕ) {types : ℕ} {st : List ℕ} {top : ℕ} {a : B.Around} (x : Held types st top a) → length (contextAt ds (x .trees) .bound) ≡ a .bodies
-unfolding contextAt
-bodies-at ds x = x .long
+well-at ds good bs = bodies-well (well-formed ds good) bs
 
 -- none at all
-abbrev pub held-none : (types : ℕ) (st : List ℕ) → Held types st 0 (record { bodies = 0; inner = 0 })
+abbrev pub held-none : (types : ℕ) (st : List ℕ) → Held types st 0 (aroundOf 64)
+unfolding aroundOf
 held-none types st = record { trees = []; chain = unbound {top = 0} {inner = 0} (omega arith); long = refl }
 
 -- ---- the words of an index, by its sort and on the stack
@@ -158,7 +146,7 @@ reached : {n a : ℕ} → inReach n a ≡ true → (ltb a maxBodies ≡ true) ×
 unfolding inReach
 reached {n} {a} h = let e = and-eq-true-iff (ltb a maxBodies) (ltb a n) .0 h in (e .0, ltb-true a n (e .1))
 
-module _ {types : ℕ} {st : List ℕ} {top : ℕ} {around : B.Around} (x : Held types st top around) (a : ℕ) where
+module _ {types : ℕ} {st : List ℕ} {top : ℕ} {around : Around} (x : Held types st top around) (a : ℕ) where
   pub bound-past : inReach (around .bodies) a ≡ false → Answers (boundShape types a (x .trees)) (record { typed = false; sorted = record { class = Basis; left = 0; right = 0 } }) top st st
   unfolding boundShape indexShape inReach
   bound-past h = go (ltb a maxBodies) h
@@ -189,7 +177,7 @@ told-by types σ st top n room few ws l e = go (indexTree types σ) refl e
         let z : n ≡ 0 = omega (arith, ap length q) in
         record { told = rw (le-ltb 0 n (omega arith)); small = λ y. (few, omega arith); kept = kept }
 
-module _ {types : ℕ} {st : List ℕ} {top : ℕ} {around : B.Around} (x : Held types st top around) (a : ℕ) (near : inReach (around .bodies) a ≡ true) {at n : ℕ} (place : at ≡ linkAt st (around .inner) a) (size : n ≡ getD st at 0) where
+module _ {types : ℕ} {st : List ℕ} {top : ℕ} {around : Around} (x : Held types st top around) (a : ℕ) (near : inReach (around .bodies) a ≡ true) {at n : ℕ} (place : at ≡ linkAt st (around .inner) a) (size : n ≡ getD st at 0) where
   -- its index lies below the offset
   pub bound-room : (at + 2 ≤ top) × (n ≤ at) × (n ≤ 63)
   bound-room = let s = bound-sum x a (reached near .1) .2 in (rw place (s .low), rw (size, place) (s .back), rw (size, place) (s .few))
@@ -203,12 +191,27 @@ module _ {types : ℕ} {st : List ℕ} {top : ℕ} {around : B.Around} (x : Held
       let w : run st (at - n) n ≡ indexWords types (s .0) = rw (size, place) (s .2 .is) in
       rw (e, s .1, reached near .0) (told-by types (s .0) st top n room (h .2) (run st (at - n) n) (run-length st (at - n) n (omega arith)) w)
 
--- its words, by way of an array
-pub made-front : (st : List ℕ) {at n top : ℕ} {out made : List ℕ} {e : ℕ} → Added out 0 (run st (at - n) n) made e → (at + 2 ≤ top) × (n ≤ at) × (n ≤ 63) → top ≤ length st → 63 ≤ length out → take n made ≡ run st (at - n) n
-made-front st {at} {n} a h k long =
-    let l = run-length st (at - n) n (omega arith) in
-    let z : 0 + length (run st (at - n) n) ≡ n = omega arith in
-    rw z at (a .front (omega arith))
+-- its words, one after the other: they come to stand behind those that they are copied from
+module _ (st : List ℕ) (from to i : ℕ) (apart : from + i ≤ to) (fits : to + i ≤ length st) where
+  abbrev Copied : List ℕ
+  Copied = laid st to (run st from i)
+
+  many : length (run st from i) ≡ i
+  many = run-length st from i (omega arith)
+
+  copied : Above to st Copied
+  copied = above-laid st to (run st from i) (omega (arith, many))
+
+  pub copied-long : {s : List ℕ} → s ≡ Copied → length s ≡ length st
+  copied-long e = rw e (copied .long)
+
+  pub copied-more : from + i < to → to + i < length st → {s : List ℕ} → s ≡ Copied → set s (to + i) (getD s (from + i) 0) ≡ laid st to (run st from (i + 1))
+  copied-more h k {s} e =
+      let w = getD st (from + i) 0 in
+      let one : run st (from + i) 1 ≡ w ∷ [] = rw (drop-cons st (from + i) 0 (omega arith)) in
+      let l = copied .long in
+      let both = rw many at (laid-both st to (run st from i) (w ∷ []) (omega (arith, many))) in
+      rw (e, word-kept to st Copied (copied .below) (from + i) h, set-laid Copied (to + i) w (omega arith), both, ← one, run-both st from i 1)
 
 -- ---- a record is written
 two-laid : (st : List ℕ) (at a b : ℕ) → at + 2 ≤ length st → (getD (laid st at (a ∷ b ∷ [])) at 0 ≡ a) × (getD (laid st at (a ∷ b ∷ [])) (at + 1) 0 ≡ b)

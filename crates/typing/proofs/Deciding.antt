@@ -15,7 +15,7 @@ use Rattle.term.specs.Terms.{maxWords, maxDepth, allDeclared, termWords, isTerm
 use Rattle.term.specs.Trees.{depth}
 use Rattle.term.proofs.Scan.{part-length}
 use Rattle.term.proofs.TermTest.{term-in, term-end, term-names}
-use Rattle.declarations.specs.Declarations.{contextIn, namesIn, goodDeclarations}
+use Rattle.declarations.specs.Declarations.{contextIn, namesIn, goodDeclarations, contextAt}
 use Rattle.types.specs.Sorts.{Sort, Context}
 use Rattle.types.specs.Strays.{strayOf}
 use Rattle.types.specs.TypeOf.{typed, typeOf}
@@ -27,12 +27,12 @@ use Rattle.typing.specs.declared.terms.Typing as A
 use Rattle.typing.specs.Answers.{refuse, strayed, answerOf, typingOf}
 use Rattle.typebook.specs.Code.Shapes.{shapeOf}
 use Rattle.typing.specs.Code.Shapes.{shapeAt}
-use Rattle.typing.specs.Code.Chains.{Held}
+use Rattle.typing.specs.Code.Chains.{budgetOf, aroundOf, Held}
 use Rattle.typing.specs.Code.Strays.{Told, Looked}
-use Rattle.typing.specs.Code.Verdicts.{contextAt, Found, typingIn}
+use Rattle.typing.specs.Code.Verdicts.{Found, typingIn}
 use Rattle.typing.proofs.Lying.{shape-kept, length-overlaid, bottom-kept}
 use Rattle.typing.proofs.Answering.{here, here-part, here-shallow, sort-none}
-use Rattle.typing.proofs.Binding.{context-none, held-none}
+use Rattle.typing.proofs.Binding.{held-none}
 
 -- the answer for the first n words of a slice is that for those words
 pub within : (ds ws : List ℕ) (n : ℕ) → length ws ≡ maxWords → goodDeclarations ds ≡ true → n ≤ length ws → typingIn ds (take n ws) ≡ typingOf ds ws n
@@ -40,9 +40,10 @@ unfolding typingIn typingOf
 within ds ws n size good inside = rw (eq-eqb _ _ size, good, term-in (namesIn ds) ws n inside, length-take-le n ws inside)
 
 -- no sum is around a whole term
-pub found-top : (ds : List ℕ) {ws : List ℕ} {budget : ℕ} {v : Answer.Verdict} {st st′ : List ℕ} → ((x : Held (getD ds 0 0) st 0 (record { bodies = 0; inner = 0 })) → Found (contextAt ds (x .trees)) ws budget 0 v st st′)
-    → Found (contextIn ds) ws budget 0 v st st′
-found-top ds {st = st} f = rw (context-none ds) at (f (held-none (getD ds 0 0) st))
+pub found-top : (ds : List ℕ) {ws : List ℕ} {v : Answer.Verdict} {st st′ : List ℕ} → ((x : Held (getD ds 0 0) st 0 (aroundOf 64)) → Found (contextAt ds (x .trees)) ws (budgetOf 64) 0 v st st′)
+    → Found (contextIn ds) ws 64 0 v st st′
+unfolding budgetOf aroundOf contextIn
+found-top ds {st = st} f = f (held-none (getD ds 0 0) st)
 
 -- the stack is as long as it was
 pub found-room : {Γ : Context} {ws : List ℕ} {budget top : ℕ} {v : Answer.Verdict} {st st′ : List ℕ} → Found Γ ws budget top v st st′ → (n : ℕ) → n ≤ length st → n ≤ length st′

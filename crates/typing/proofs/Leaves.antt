@@ -16,8 +16,8 @@ use Rattle.term.specs.Trees.{Tree, words, count}
 use Rattle.term.proofs.Readings.{Every, every-at, _⨾_}
 use Rattle.typebook.specs.Code.Shapes.{shapeOf, given}
 use Rattle.typebook.specs.Code.Lines.{concluded}
-use Rattle.typing.specs.Code.Verdicts.{indexShape, boundShape, leafOf, contextAt}
-use Rattle.declarations.specs.Declarations.{contextIn, basisIn, variableIn}
+use Rattle.typing.specs.Code.Verdicts.{indexShape, boundShape, leafOf}
+use Rattle.declarations.specs.Declarations.{contextIn, basisIn, variableIn, contextAt}
 use Rattle.types.specs.Sorts.{Sort, basis}
 use Rattle.types.specs.TypeOf.{listed, indexTree, boundOf, fails, conclude}
 use Rattle.words.specs.Listed.{upTo}
@@ -65,19 +65,19 @@ module _ (ds : List ℕ) (bs : List Tree) where
   low k a h = omega arith
 
   type-row : RowLaw 1 (named type-name Index)
-  unfolding conclude leafOf contextAt contextIn words word count
+  unfolding conclude leafOf contextIn words word count
   type-row a h = rw (high 1 a h, low 1 a h) (on-cond (ltb a (getD ds 0 0)) _)
 
   basis-row : RowLaw 3 (named basis-name Basis)
-  unfolding conclude leafOf contextAt contextIn
+  unfolding conclude leafOf contextIn
   basis-row a h = rw (high 3 a h, low 3 a h) (on-listed (getD ds 1 0) (basisIn ds) basis a)
 
   variable-row : RowLaw 26 (named variable Term)
-  unfolding conclude leafOf contextAt contextIn
+  unfolding conclude leafOf contextIn
   variable-row a h = rw (high 26 a h, low 26 a h) (on-listed (getD ds 2 0) (variableIn ds) (λ S. S) a)
 
   bound-row : RowLaw 28 (named bound-basis Basis)
-  unfolding conclude leafOf contextAt contextIn
+  unfolding conclude leafOf contextIn
   bound-row a h = rw (high 28 a h, low 28 a h) (on-bound (getD ds 0 0) a bs)
 
   rows : Every RowLaw 0 heads

@@ -1,11 +1,11 @@
 -- The laws of typing that the crates above cite.
-mod Labels
 mod Lying
 mod Binding
 mod Straying
 mod Leaves
 mod Concluding
 mod Putting
+mod Packing
 mod Passing
 mod Walked
 mod Deciding

@@ -25,8 +25,8 @@ use Rattle.typing.specs.Code.Shapes.{Above, Answers}
 use Rattle.typebook.specs.Code.Lines.{concluded}
 use Rattle.typing.specs.Code.Verdicts.{refusal, settlement, Unsettled, Found}
 use Rattle.typing.proofs.Lying.{above-trans, above-lower}
+use Rattle.types.proofs.Labels.{binds-word}
 use Rattle.types.proofs.Walk.{typed-at, untyped-at, nextIn, types-more, types-fail, next-child}
-use Rattle.typing.proofs.Labels.{binds-word}
 
 -- ---- the children passed so far
 -- the context of those behind the first, where the head binds or not, and that of the next one

@@ -8,13 +8,13 @@ use Prim.Native.Nat.{ℕ, zero, suc, _+_, _/_, _%_, _≤_, _<_}
 use native.Mathlib.Omega.{arith}
 use borrow.Author.Tests.{eq-eqb, ne-eqb, ltb-true}
 use lib.Dec.{eqb, ltb}
-use lib.ListN.{length, getD, getElem?, set, length-append}
-use Rattle.words.specs.Words.{laid, Added}
+use lib.ListN.{length, getD, set, length-append}
+use Rattle.words.specs.Words.{laid}
 use Rattle.term.specs.declared.heads.Class.the-variants.{Index, Scalar, Ket, Bra, Operator}
 use Rattle.term.specs.Trees.{Tree}
 use Rattle.types.specs.Sorts.{basis}
 use Rattle.declarations.specs.Declarations.{size, basisAt, variableAt, basisIn, variableIn, goodDeclarations}
-use Rattle.declarations.proofs.Entries.{basisLen, kind, firstLen, secondLen, basis-good, basis-room, variable-good, variable-room, kind-0, kind-1, kind-2, kind-3}
+use Rattle.declarations.proofs.Entries.{declarations, basisLen, kind, firstLen, secondLen, basis-good, basis-room, variable-good, variable-room, kind-0, kind-1, kind-2, kind-3}
 use Rattle.typing.specs.declared.sorts.Run as R
 use Rattle.typing.specs.declared.sorts.Outcome as O
 use Rattle.typing.specs.declared.lookup.Entry as E
@@ -25,6 +25,9 @@ use Rattle.typing.specs.Code.Verdicts.{boundShape, sortedBy, bareEntry, 
 use Rattle.typing.proofs.Lying.{run-length, above-laid, laid-both, shape-laid, set-laid}
 
 -- ---- where an entry lies, and that its indices are short
+pub good-size : (ds : List ℕ) → goodDeclarations ds ≡ true → length ds ≡ size
+good-size ds good = declarations ds good .long
+
 pub basis-entry : (ds : List ℕ) (a : ℕ) → (goodDeclarations ds ≡ true) × (a < getD ds 1 0) → (length ds ≡ size) × (a < 32) × (basisLen ds a ≤ 63)
 basis-entry ds a h = let r = basis-room ds a h in (r .0, r .1, basis-good ds a h .few)
 
@@ -39,11 +42,8 @@ module _ (ds : List ℕ) (l r : R.Run) (h : Two ds l r) (top : ℕ) (st : List �
   bound : top + length (runAt ds l) + length (runAt ds r) ≤ length st
   bound = omega (arith, run-length ds (l .at) (l .len) (h .0), run-length ds (r .at) (r .len) (h .1))
 
-  pub both-put : {mid st′ : List ℕ} {behind : ℕ} → Added st top (runAt ds l) mid behind → mid ≡ laid st top (runAt ds l) → st′ ≡ laid mid behind (runAt ds r) → st′ ≡ laid st top (runAt ds l ++ runAt ds r)
-  both-put {behind = behind} a e f =
-      let b = bound in
-      let z : behind ≡ top + length (runAt ds l) = omega (arith, a .end) in
-      f ∙ rw (e, z) (laid-both st top (runAt ds l) (runAt ds r) b)
+  pub both-put : {mid st′ : List ℕ} → mid ≡ laid st top (runAt ds l) → st′ ≡ laid mid (top + l .len) (runAt ds r) → st′ ≡ laid st top (runAt ds l ++ runAt ds r)
+  both-put e f = let both = rw (run-length ds (l .at) (l .len) (h .0)) at (laid-both st top (runAt ds l) (runAt ds r) bound) in f ∙ rw e both
 
   fits : top + length (runAt ds l ++ runAt ds r) ≤ length st
   fits = omega (arith, bound, length-append (runAt ds l) (runAt ds r))

@@ -1,39 +1,31 @@
 -- The search for a stray part: the children passed so far have none, and the whole part from them.
 use mathlib.Core.Path.{_≡_, refl, sym, _∙_, ap}
 use mathlib.Core.Bool.{Bool, true, false, cond, not, _&&_}
-use mathlib.Core.List.{List, [], _∷_, _++_, append-nil}
+use mathlib.Core.List.{List, _++_, append-nil}
 use mathlib.Core.Option.{Option, some, none as nothing}
-use Prim.Native.Nat.{ℕ, zero, suc, _+_, _-_, _/_, _≤_, _<_, max}
+use Prim.Native.Nat.{ℕ, suc, _+_, _-_, _/_, _≤_, _<_}
 use native.Mathlib.Numerals.{add-one}
 use native.Mathlib.Omega.{arith}
 use borrow.Author.Tests.{eq-eqb, ne-eqb}
 use lib.Dec.{eqb}
 use lib.ListN.{length, drop, getD, length-append, length-drop}
 use lib.Seq.{drop-drop, getD-drop}
-use Rattle.term.specs.Heads.{Label, labelled, read, arityOf}
+use Rattle.words.specs.Listed.{orElse}
+use Rattle.term.specs.Heads.{arityOf}
 use Rattle.term.specs.declared.heads.Arity.the-variants.{Unknown, Children}
 use Rattle.term.specs.Trees.{Tree, Forest, node, none, _▹_, count, _⧺_, words, words*, depth, depth*}
 use Rattle.term.specs.Parts.{parse, treeIn, first, firstDepth, part, partDepth}
 use Rattle.term.proofs.Parsing.{⧺-assoc, count-⧺, words*-⧺, some-words}
 use Rattle.term.proofs.Extents.{depth*-⧺, parse-behind}
 use Rattle.term.proofs.Scan.{read-children, read-unknown}
-use Rattle.types.specs.Inside.{binds}
-use Rattle.types.specs.Strays.{isStray, orElse, strayOf, straysOf}
+use Rattle.types.specs.Strays.{strayOf, straysOf}
+use Rattle.types.proofs.Labels.{binds-word, stray-word}
+use Rattle.types.proofs.Walk.{nextIn, next-same}
 use Rattle.typing.specs.declared.strays.Stray as S
 use Rattle.typing.specs.Code.Strays.{strayWord, bodiesIn, Told, Looked}
-use Rattle.typing.proofs.Labels.{binds-word, stray-word}
 use Rattle.typing.proofs.Passing.{Root, root, some-word}
 
 -- ---- a row of children
-unfoldable nextIn : ℕ → ℕ → Forest → ℕ
-nextIn n m none = n
-nextIn n m (t ▹ f) = m
-
-next-same : (m : ℕ) (f : Forest) → nextIn m m f ≡ m
-unfolding nextIn
-next-same m none = refl
-next-same m (t ▹ f) = refl
-
 else-assoc : (a b c : Option ℕ) → orElse a (orElse b c) ≡ orElse (orElse a b) c
 unfolding orElse
 else-assoc nothing b c = refl
@@ -98,12 +90,12 @@ module _ (ws : List ℕ) (at bodies : ℕ) (R : Root (drop at ws)) where
   whole-tree = rw (R .is)
 
   whole-stray : {b : Bool} → b ≡ strayWord (getD (drop at ws) 0 0) bodies → b ≡ true → strayOf bodies at (treeIn (parse (drop at ws))) ≡ some at
-  unfolding strayOf
+  unfolding strayOf strayWord
   whole-stray t y = rw (whole-tree, stray-word _ _ _ bodies (R .reads), ← t, y)
 
   whole-row : {b : Bool} → b ≡ strayWord (getD (drop at ws) 0 0) bodies → b ≡ false
       → strayOf bodies at (treeIn (parse (drop at ws))) ≡ straysOf bodies (behindFirst (getD (drop at ws) 0 0) bodies) (at + 1) (R .kids)
-  unfolding strayOf
+  unfolding strayOf strayWord
   whole-row t y = rw (whole-tree, stray-word _ _ _ bodies (R .reads), ← t, y, binds-word _ _ _ (R .reads))
 
   whole-length : length (part ws at) ≡ 1 + length (words* (R .kids))

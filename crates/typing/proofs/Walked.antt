@@ -18,8 +18,8 @@ use Rattle.types.specs.Sorts.{Sort, index, basis, scalar, ket, bra, operator, C
 use Rattle.types.specs.Inside.{binds}
 use Rattle.types.specs.TypeOf as T
 use Rattle.types.specs.TypeOf.{fails, conclude, Typed, typed, untyped, sorts, failed, join, typeOf, typesOf}
+use Rattle.types.proofs.Labels.{binds-word}
 use Rattle.types.proofs.Sound.{sound}
-use Rattle.typing.specs.declared.bodies.Around as B
 use Rattle.typing.specs.declared.sorts.Gathered as G
 use Rattle.typing.specs.declared.infer.Verdict as Answer
 use Rattle.typing.specs.declared.sorts.Outcome as O
@@ -27,12 +27,11 @@ use Rattle.typing.specs.declared.sorts.Sorted as S
 use Rattle.typebook.specs.Code.Shapes.{Shape, shapeOf}
 use Rattle.typing.specs.Code.Shapes.{shapeAt, Small, Ready, Above, Answers}
 use Rattle.typebook.specs.Code.Lines.{concluded, alikeTo, allAlike, isSum}
-use Rattle.declarations.specs.Declarations.{goodDeclarations}
-use Rattle.typing.specs.Code.Chains.{Held, indexLen, enters, recordAt, entered, enteredOn, ninth}
-use Rattle.typing.specs.Code.Verdicts.{refusal, settlement, leafOf, contextAt, need, Settled, Found}
+use Rattle.declarations.specs.Declarations.{goodDeclarations, contextIn, contextAt}
+use Rattle.typing.specs.Code.Chains.{Around, Held, indexLen, enters, recordAt, entered, enteredOn, ninth}
+use Rattle.typing.specs.Code.Verdicts.{refusal, settlement, leafOf, need, Settled, Found}
 use Rattle.typing.specs.Code.Conclude.{noneYet, gapOf, oneMore, Concludes}
 use Rattle.typebook.proofs.Rows.{lastOf, Roomy, children-law}
-use Rattle.typing.proofs.Labels.{binds-word}
 use Rattle.typing.proofs.Leaves.{leaf-law}
 use Rattle.typing.proofs.Binding.{well-at, chained-kept, chained-up, chained-more}
 use Rattle.typing.proofs.Lying.{above-refl, above-trans, above-lower, above-laid, shape-kept}
@@ -119,7 +118,7 @@ walked-none {Γ} {ws} {top = top} {head = head} {st = st} wants h e =
 
 -- ---- the bodies around the next child
 -- what is written for it stands behind the first child's words
-pub entered-above : {st st′ : List ℕ} (head k top : ℕ) (f : S.Sorted) (a : B.Around) → recordAt top f + 2 ≤ length st → st′ ≡ enteredOn head k top f a st → Above (recordAt top f) st st′
+pub entered-above : {st st′ : List ℕ} (head k top : ℕ) (f : S.Sorted) (a : Around) → recordAt top f + 2 ≤ length st → st′ ≡ enteredOn head k top f a st → Above (recordAt top f) st st′
 unfolding enteredOn
 entered-above {st} head k top f a fits e = rw e (go (enters head k))
   where
@@ -128,7 +127,7 @@ entered-above {st} head k top f a fits e = rw e (go (enters head k))
     go false = above-refl (recordAt top f) st
 
 -- the context of a child, with the trees of the sums around it on the stack
-pub record Entering (ds : List ℕ) (Δ : Context) (st : List ℕ) (free : ℕ) (a : B.Around) : Type 0 where
+pub record Entering (ds : List ℕ) (Δ : Context) (st : List ℕ) (free : ℕ) (a : Around) : Type 0 where
   pub held : Held (getD ds 0 0) st free a
   pub is : contextAt ds (held .trees) ≡ Δ
 
@@ -141,7 +140,7 @@ first-sort Γ Δ at c cs s ss e = go (typeOf Γ at c) (typesOf Δ Δ (at + lengt
     go (typed q) (failed k) e = absurd (let z : _≡_ {A = ℕ} 0 1 = cc in omega arith)
     go (typed q) (sorts qs) e = cc
 
-module _ (ds : List ℕ) (good : goodDeclarations ds ≡ true) {st₀ st : List ℕ} {top : ℕ} {around : B.Around} (x : Held (getD ds 0 0) st₀ top around) (kept : Above top st₀ st) where
+module _ (ds : List ℕ) (good : goodDeclarations ds ≡ true) {st₀ st : List ℕ} {top : ℕ} {around : Around} (x : Held (getD ds 0 0) st₀ top around) (kept : Above top st₀ st) where
   abbrev Γ : Context
   Γ = contextAt ds (x .trees)
 
@@ -153,7 +152,7 @@ module _ (ds : List ℕ) (good : goodDeclarations ds ≡ true) {st₀ st : List 
   one-more : {head : ℕ} {g : G.Gathered} (cs : Forest) {list : List Sort} → Gathers head top list g st → eqb head 27 ≡ true → top + 128 ≤ length st → count cs ≢ 0 → length list ≡ count cs
       → typesOf Γ (laterBy true Γ cs) 1 cs ≡ sorts list
       → Entering ds (nextAt true Γ cs) (laid st (recordAt top (g .first)) (indexLen (g .first) ∷ around .inner ∷ [])) (g .free) (record { bodies = around .bodies + 1; inner = recordAt top (g .first) })
-  unfolding count gapOf nextAt contextAt
+  unfolding count gapOf nextAt contextIn
   one-more none k b room n l e = absurd (n refl)
   one-more (c ▹ cs) (begun al fr sm) b room n l e = absurd (omega arith)
   one-more {g = g} (c ▹ cs) (going {s} {ss} k) b room n l e =
@@ -164,7 +163,7 @@ module _ (ds : List ℕ) (good : goodDeclarations ds ≡ true) {st₀ st : List 
       record { held = record { trees = c ∷ x .trees; chain = rw z chain; long = let y = x .long in omega arith }; is = refl }
 
   entering-by : {head k : ℕ} {g : G.Gathered} (cs : Forest) {list : List Sort} → Gathers head top list g st → top + 128 ≤ length st → count cs ≡ k → length list ≡ k → (b : Bool) → eqb head 27 ≡ b
-      → typesOf Γ (laterBy b Γ cs) 1 cs ≡ sorts list → {within : B.Around} {st′ : List ℕ} → within ≡ entered head k top (g .first) around → st′ ≡ enteredOn head k top (g .first) around st
+      → typesOf Γ (laterBy b Γ cs) 1 cs ≡ sorts list → {within : Around} {st′ : List ℕ} → within ≡ entered head k top (g .first) around → st′ ≡ enteredOn head k top (g .first) around st
       → Entering ds (nextAt b Γ cs) st′ (g .free) within
   unfolding entered enteredOn enters nextAt laterBy count
   entering-by none q room n l false e t p r = rw (p, r, e) (same-bodies (let f = gathers-free q .from in omega arith))
@@ -215,7 +214,7 @@ module _ {Γ : Context} {ws : List ℕ} {budget top head next k deepest : ℕ} {
       go (going m) e = let f = free-at .upTo in let a = m .at in record { room = omega arith; more = omega arith; long = u; first = m .small; latest = m .latest-small }
 
 -- one more child, in its context
-entered-few : {within : B.Around} (head k top : ℕ) (f : S.Sorted) (a : B.Around) → within ≡ entered head k top f a → within .bodies ≤ a .bodies + 1
+entered-few : {within : Around} (head k top : ℕ) (f : S.Sorted) (a : Around) → within ≡ entered head k top f a → within .bodies ≤ a .bodies + 1
 unfolding entered
 entered-few head k top f a e = rw e (go (enters head k))
   where
@@ -223,8 +222,8 @@ entered-few head k top f a e = rw e (go (enters head k))
     go true = omega arith
     go false = omega arith
 
-module _ (ds : List ℕ) (good : goodDeclarations ds ≡ true) {ws : List ℕ} {budget top head next k deepest : ℕ} {g : G.Gathered} {st₀ st : List ℕ} {around : B.Around} (x : Held (getD ds 0 0) st₀ top around)
-    (w : Walked (contextAt ds (x .trees)) ws budget top head next k deepest g st₀ st) (room : top + need (length ws) budget ≤ length st₀) {within : B.Around} {st′ : List ℕ}
+module _ (ds : List ℕ) (good : goodDeclarations ds ≡ true) {ws : List ℕ} {budget top head next k deepest : ℕ} {g : G.Gathered} {st₀ st : List ℕ} {around : Around} (x : Held (getD ds 0 0) st₀ top around)
+    (w : Walked (contextAt ds (x .trees)) ws budget top head next k deepest g st₀ st) (room : top + need (length ws) budget ≤ length st₀) {within : Around} {st′ : List ℕ}
     (p : within ≡ entered head k top (g .first) around) (q : st′ ≡ enteredOn head k top (g .first) around st) where
   pub entering : Entering ds (nextOf w) st′ (g .free) within
   entering = let l = w .kept .long in entering-by ds good x (w .kept) (w .passed .children) (w .gathers) (omega arith) (w .passed .number) (w .long) (eqb head 27) refl (w .passed .sorted) p q

@@ -1,24 +1,36 @@
 // The sums over a basis whose bodies hold a part. Each has a record on the stack, two words behind those of its index: how many words the index has, 0 where the sum lacks one, and where
 // the next outer sum's record stands.
 use crate::sorts::Outcome;
-use crate::sorts::Run;
 use crate::sorts::Sorted;
-use crate::sorts::put_run;
 use term::heads::Class;
 use typebook::number;
-use words::append;
 use words::word_at;
 ghost use mathlib.Core.Path.{_≡_};
-ghost use Prim.Native.Nat.{ℕ, _+_, _≤_};
+ghost use Prim.Native.Nat.{ℕ, _+_, _-_, _≤_, _<_};
 ghost use lib.ListN.{length};
-ghost use Rattle.typing.specs.Code.Shapes.{Small, Room, Answers};
-ghost use Rattle.typing.specs.Code.Chains.{indexLen, linkAt, entered, enteredOn, inReach, ninth, Held};
+ghost use Rattle.words.specs.Words.{laid};
+ghost use Rattle.typing.specs.Code.Shapes.{run, Small, Room, Answers};
+ghost use Rattle.typing.specs.Code.Chains.{budgetOf, aroundOf, indexLen, linkAt, entered, enteredOn, inReach, ninth, Held};
 ghost use Rattle.typing.specs.Code.Verdicts.{boundShape};
 
-// How many bodies there are around a part, and where the record of the innermost sum stands.
-pub struct Around {
-    pub bodies: usize,
-    pub inner: usize,
+// What a part is typed within is one number, since a struct would go through memory at each call: how much deeper the call may go, how many bodies there are around the part, and where
+// the record of the innermost sum stands.
+pub fn budget_of(within: usize) -> usize
+    ensures { λ r. ⌜ r ≡ budgetOf within ⌝ }
+{
+    within % 128
+}
+
+fn bodies_of(within: usize) -> usize
+    ensures { λ r. ⌜ r ≡ aroundOf within .bodies ⌝ }
+{
+    within / 128 % 128
+}
+
+fn inner_of(within: usize) -> usize
+    ensures { λ r. ⌜ r ≡ aroundOf within .inner ⌝ }
+{
+    within / 16384
 }
 
 // How many words the index has that a sort is, and 0 for any other sort.
@@ -32,31 +44,28 @@ fn index_len(s: Sorted) -> usize
     0
 }
 
-// The bodies around the next child of a head, behind `k` others: a sum over a basis holds what comes behind its first child, and has its record written.
+// What the next child of a head is typed within, behind `k` others: a sum over a basis holds what comes behind its first child, and has its record written.
 pub fn enter(
     head: usize,
     k: usize,
     stack: &mut [u16],
     top: usize,
     first: Sorted,
-    around: Around,
-) -> Around
-    requires { ⌜ (top + 128 ≤ length (now stack)) × (length (now stack) ≤ 8320) × Small first × (around .inner ≤ 8320) × (around .bodies ≤ 64) ⌝ }
-    ensures { λ r. ⌜ (r ≡ entered head k top first around) × (now (stack .exit) ≡ enteredOn head k top first around (now (stack .entry))) ⌝ }
+    within: usize,
+) -> usize
+    requires { ⌜ (top + 128 ≤ length (now stack)) × (length (now stack) ≤ 8320) × Small first × (aroundOf within .inner ≤ 8320) × (aroundOf within .bodies + budgetOf within ≤ 64) × (0 < budgetOf within) ⌝ }
+    ensures { λ r. ⌜ (aroundOf r ≡ entered head k top first (aroundOf within)) × (budgetOf r ≡ budgetOf within - 1) × (now (stack .exit) ≡ enteredOn head k top first (aroundOf within) (now (stack .entry))) ⌝ }
 {
     if head != 27 {
-        return around;
+        return within - 1;
     }
     if k == 0 {
-        return around;
+        return within - 1;
     }
     let at = top + first.left + first.right;
     stack[at] = index_len(first) as u16;
-    stack[at + 1] = around.inner as u16;
-    Around {
-        bodies: around.bodies + 1,
-        inner: at,
-    }
+    stack[at + 1] = inner_of(within) as u16;
+    budget_of(within) - 1 + 128 * (bodies_of(within) + 1) + 16384 * at
 }
 
 // Where the record of the `a`-th sum stands, from the innermost on.
@@ -80,12 +89,24 @@ fn is_in_reach(bodies: usize, a: usize) -> bool
     a < 8 && a < bodies
 }
 
-// What is found of the basis bound by the `a`-th sum: its index goes to `top`.
-pub fn put_bound(stack: &mut [u16], top: usize, around: Around, a: usize) -> Outcome
-    requires { ⌜ Room top (now stack) × (length (now stack) ≤ 8320) × ((types : ℕ) × Held types (now stack) top around) ⌝ }
-    ensures { λ r. ⌜ ((types : ℕ) (x : Held types (now (stack .entry)) top around) → Answers (boundShape types a (x .trees)) r top (now (stack .entry)) (now (stack .exit))) ⌝ }
+// Lays `n` words of the stack over those from `to` on, behind them.
+fn copy_up(stack: &mut [u16], from: usize, n: usize, to: usize)
+    requires { ⌜ (from + n ≤ to) × (to + n ≤ length (now stack)) ⌝ }
+    ensures { λ _. ⌜ now (stack .exit) ≡ laid (now (stack .entry)) to (run (now (stack .entry)) from n) ⌝ }
 {
-    if !is_in_reach(around.bodies, a) {
+    let mut i = 0;
+    while i < n {
+        stack[to + i] = stack[from + i];
+        i += 1;
+    }
+}
+
+// What is found of the basis bound by the `a`-th sum: its index goes to `top`.
+pub fn put_bound(stack: &mut [u16], top: usize, within: usize, a: usize) -> Outcome
+    requires { ⌜ Room top (now stack) × (length (now stack) ≤ 8320) × ((types : ℕ) × Held types (now stack) top (aroundOf within)) ⌝ }
+    ensures { λ r. ⌜ ((types : ℕ) (x : Held types (now (stack .entry)) top (aroundOf within)) → Answers (boundShape types a (x .trees)) r top (now (stack .entry)) (now (stack .exit))) ⌝ }
+{
+    if !is_in_reach(bodies_of(within), a) {
         return Outcome {
             typed: false,
             sorted: Sorted {
@@ -95,11 +116,9 @@ pub fn put_bound(stack: &mut [u16], top: usize, around: Around, a: usize) -> Out
             },
         };
     }
-    let at = record_at(stack, around.inner, a);
+    let at = record_at(stack, inner_of(within), a);
     let n = word_at(stack, at) as usize;
-    let mut made = [0u16; 63];
-    put_run(&mut made, 0, stack, Run { at: at - n, len: n });
-    append(stack, top, &made[..n]);
+    copy_up(stack, at - n, n, top);
     Outcome {
         typed: 0 < n,
         sorted: Sorted {
@@ -111,11 +130,11 @@ pub fn put_bound(stack: &mut [u16], top: usize, around: Around, a: usize) -> Out
 }
 
 // Whether a head is a sum over a basis in as many bodies as there may be.
-pub fn is_ninth(head: usize, bodies: usize) -> bool
-    ensures { λ r. ⌜ r ≡ ninth head bodies ⌝ }
+pub fn is_ninth(head: usize, within: usize) -> bool
+    ensures { λ r. ⌜ r ≡ ninth head (aroundOf within .bodies) ⌝ }
 {
     if head != 27 {
         return false;
     }
-    8 <= bodies
+    8 <= bodies_of(within)
 }

@@ -1,12 +1,12 @@
 // The sort of a part, or the place of the first untyped one.
-use crate::bodies::Around;
+use crate::bodies::budget_of;
 use crate::bodies::enter;
 use crate::bodies::is_ninth;
 use crate::bodies::put_bound;
 use crate::gathering::gather;
 use crate::gathering::none_yet;
 use crate::lookup::entry_of;
-use crate::lookup::put_words;
+use crate::lookup::put_both;
 use crate::rules::conclude;
 use crate::sorts::Outcome;
 use crate::sorts::Sorted;
@@ -19,10 +19,10 @@ ghost use mathlib.Core.Path.{_≡_};
 ghost use mathlib.Core.Bool.{true};
 ghost use Prim.Native.Nat.{_+_, _≤_};
 ghost use lib.ListN.{length, getD};
-ghost use Rattle.declarations.specs.Declarations.{goodDeclarations};
+ghost use Rattle.declarations.specs.Declarations.{goodDeclarations, contextAt};
 ghost use Rattle.typing.specs.Code.Shapes.{Room, Answers};
-ghost use Rattle.typing.specs.Code.Chains.{Held};
-ghost use Rattle.typing.specs.Code.Verdicts.{refusal, settlement, leafOf, contextAt, need, Found};
+ghost use Rattle.typing.specs.Code.Chains.{budgetOf, aroundOf, Held};
+ghost use Rattle.typing.specs.Code.Verdicts.{refusal, settlement, leafOf, need, Found};
 
 // What typing finds of a part: its number of words, its depth and its sort, or the offset of the first untyped part.
 pub struct Verdict {
@@ -63,12 +63,12 @@ fn settled(size: usize, depth: usize, outcome: Outcome) -> Verdict
 }
 
 // What is found of a head without children, with such bodies around it. The declarations were tested.
-fn conclude_leaf(ds: &[u16], word: u16, stack: &mut [u16], top: usize, around: Around) -> Outcome
-    requires { ⌜ (goodDeclarations (now ds) ≡ true) × Room top (now stack) × (length (now stack) ≤ 8320) × Held (getD (now ds) 0 0) (now stack) top around ⌝ }
-    ensures { λ r. ⌜ ((x : Held (getD (now (ds .entry)) 0 0) (now (stack .entry)) top around) → Answers (leafOf (now (ds .entry)) (x .trees) word) r top (now (stack .entry)) (now (stack .exit))) ⌝ }
+fn conclude_leaf(ds: &[u16], word: u16, stack: &mut [u16], top: usize, within: usize) -> Outcome
+    requires { ⌜ (goodDeclarations (now ds) ≡ true) × Room top (now stack) × (length (now stack) ≤ 8320) × Held (getD (now ds) 0 0) (now stack) top (aroundOf within) ⌝ }
+    ensures { λ r. ⌜ ((x : Held (getD (now (ds .entry)) 0 0) (now (stack .entry)) top (aroundOf within)) → Answers (leafOf (now (ds .entry)) (x .trees) word) r top (now (stack .entry)) (now (stack .exit))) ⌝ }
 {
     if word / 256 == 28 {
-        return put_bound(stack, top, around, (word % 256) as usize);
+        return put_bound(stack, top, within, (word % 256) as usize);
     }
     if word / 256 == 1 {
         stack[top] = word;
@@ -85,7 +85,7 @@ fn conclude_leaf(ds: &[u16], word: u16, stack: &mut [u16], top: usize, around: A
     let left = e.left;
     let right = e.right;
     let sorted = e.sorted;
-    put_words(ds, left, right, stack, top);
+    put_both(ds, left, right, stack, top);
     Outcome {
         typed: e.typed,
         sorted,
@@ -94,18 +94,11 @@ fn conclude_leaf(ds: &[u16], word: u16, stack: &mut [u16], top: usize, around: A
 
 // The sort of the whole part with which `ws` begins, with its words on the stack from `top` on; or the offset of its first untyped part. It calls itself no deeper than the
 // budget. A sum over a basis in eight bodies has no sort, and its children are typed all the same: the place of the first untyped part is that of every term.
-pub fn type_part(
-    ds: &[u16],
-    ws: &[u16],
-    stack: &mut [u16],
-    top: usize,
-    around: Around,
-    budget: usize,
-) -> Verdict
-    requires { ⌜ (goodDeclarations (now ds) ≡ true) × (top + need (length (now ws)) budget ≤ length (now stack)) × (length (now stack) ≤ 8320) × (around .bodies + budget ≤ 64) × Held (getD (now ds) 0 0) (now stack) top around ⌝ }
-    ensures { λ r. ⌜ ((x : Held (getD (now (ds .entry)) 0 0) (now (stack .entry)) top around) → Found (contextAt (now (ds .entry)) (x .trees)) (now (ws .entry)) budget top r (now (stack .entry)) (now (stack .exit))) ⌝ }
+pub fn type_part(ds: &[u16], ws: &[u16], stack: &mut [u16], top: usize, within: usize) -> Verdict
+    requires { ⌜ (goodDeclarations (now ds) ≡ true) × (top + need (length (now ws)) (budgetOf within) ≤ length (now stack)) × (length (now stack) ≤ 8320) × (aroundOf within .bodies + budgetOf within ≤ 64) × Held (getD (now ds) 0 0) (now stack) top (aroundOf within) ⌝ }
+    ensures { λ r. ⌜ ((x : Held (getD (now (ds .entry)) 0 0) (now (stack .entry)) top (aroundOf within)) → Found (contextAt (now (ds .entry)) (x .trees)) (now (ws .entry)) (budgetOf within) top r (now (stack .entry)) (now (stack .exit))) ⌝ }
 {
-    if budget == 0 {
+    if budget_of(within) == 0 {
         return refused(0);
     }
     let word = word_at(ws, 0);
@@ -113,7 +106,7 @@ pub fn type_part(
         return refused(0);
     };
     if n == 0 {
-        return settled(1, 1, conclude_leaf(ds, word, stack, top, around));
+        return settled(1, 1, conclude_leaf(ds, word, stack, top, within));
     }
     let head = (word / 256) as usize;
     let mut g = none_yet(head, top);
@@ -122,8 +115,8 @@ pub fn type_part(
     let mut k = 0;
     while k < n {
         let first = g.first;
-        let within = enter(head, k, stack, top, first, around);
-        let child = type_part(ds, &ws[next..], stack, g.free, within, budget - 1);
+        let inside = enter(head, k, stack, top, first, within);
+        let child = type_part(ds, &ws[next..], stack, g.free, inside);
         if !child.typed {
             return refused(next + child.at);
         }
@@ -133,7 +126,7 @@ pub fn type_part(
         next += child.size;
         k += 1;
     }
-    if is_ninth(head, around.bodies) {
+    if is_ninth(head, within) {
         return refused(0);
     }
     settled(next, deepest + 1, conclude(head, n, stack, top, g))

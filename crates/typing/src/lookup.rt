@@ -1,14 +1,13 @@
 // What is declared of a name, found by its number. Every function here leans on a test that was made: typing's entry makes it first, by `are_good`, and no other crate sees these.
 use crate::sorts::Run;
 use crate::sorts::Sorted;
-use crate::sorts::put_run;
 use term::heads::Class;
-use words::word_at;
+use words::copy_words;
 ghost use mathlib.Core.Path.{_≡_};
 ghost use mathlib.Core.Bool.{true};
 ghost use mathlib.Core.List.{_++_};
-ghost use Prim.Native.Nat.{_≤_, _<_};
-ghost use lib.ListN.{getD};
+ghost use Prim.Native.Nat.{_+_, _≤_, _<_};
+ghost use lib.ListN.{length, getD};
 ghost use Rattle.words.specs.Words.{laid};
 ghost use Rattle.declarations.specs.Declarations.{goodDeclarations};
 ghost use Rattle.typing.specs.Code.Shapes.{runAt, Inside, Room};
@@ -43,7 +42,7 @@ fn basis_entry(ds: &[u16], a: usize) -> Entry
     ensures { λ r. ⌜ r ≡ basisEntry (now (ds .entry)) a ⌝ }
 {
     let at = 3 + a * 64;
-    let n = word_at(ds, at) as usize;
+    let n = ds[at] as usize;
     Entry {
         typed: true,
         sorted: Sorted {
@@ -89,11 +88,11 @@ fn variable_entry(ds: &[u16], a: usize) -> Entry
     ensures { λ r. ⌜ r ≡ variableEntry (now (ds .entry)) a ⌝ }
 {
     let at = 2051 + a * 129;
-    let n = word_at(ds, at + 1) as usize;
-    let m = word_at(ds, at + 2) as usize;
+    let n = ds[at + 1] as usize;
+    let m = ds[at + 2] as usize;
     Entry {
         typed: true,
-        sorted: sorted_by(word_at(ds, at), n, m),
+        sorted: sorted_by(ds[at], n, m),
         left: Run { at: at + 3, len: n },
         right: Run {
             at: at + 66,
@@ -110,13 +109,13 @@ pub fn entry_of(ds: &[u16], word: u16) -> Entry
     let head = word / 256;
     let name = (word % 256) as usize;
     if head == 3 {
-        if name < word_at(ds, 1) as usize {
+        if name < ds[1] as usize {
             return basis_entry(ds, name);
         }
         return bare(false);
     }
     if head == 26 {
-        if name < word_at(ds, 2) as usize {
+        if name < ds[2] as usize {
             return variable_entry(ds, name);
         }
         return bare(false);
@@ -124,11 +123,21 @@ pub fn entry_of(ds: &[u16], word: u16) -> Entry
     bare(true)
 }
 
+// Lays a run of the declarations over the stack, which has room for it.
+fn put_words(ds: &[u16], r: Run, stack: &mut [u16], at: usize)
+    requires { ⌜ Inside r (now ds) × (at + r .len ≤ length (now stack)) ⌝ }
+    ensures { λ _. ⌜ now (stack .exit) ≡ laid (now (stack .entry)) at (runAt (now (ds .entry)) r) ⌝ }
+{
+    let from = r.at;
+    let end = from + r.len;
+    copy_words(&mut stack[at..], &ds[from..end]);
+}
+
 // Puts two runs of the declarations on the stack, one behind the other.
-pub fn put_words(ds: &[u16], left: Run, right: Run, stack: &mut [u16], top: usize)
+pub fn put_both(ds: &[u16], left: Run, right: Run, stack: &mut [u16], top: usize)
     requires { ⌜ Inside left (now ds) × Inside right (now ds) × (left .len ≤ 63) × (right .len ≤ 63) × Room top (now stack) ⌝ }
     ensures { λ _. ⌜ now (stack .exit) ≡ laid (now (stack .entry)) top (runAt (now (ds .entry)) left ++ runAt (now (ds .entry)) right) ⌝ }
 {
-    let behind = put_run(stack, top, ds, left);
-    put_run(stack, behind, ds, right);
+    put_words(ds, left, stack, top);
+    put_words(ds, right, stack, top + left.len);
 }

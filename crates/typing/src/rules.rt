@@ -15,7 +15,7 @@ use words::append;
 use words::insert;
 ghost use mathlib.Core.Path.{_≡_};
 ghost use mathlib.Core.Bool.{_&&_};
-ghost use Prim.Native.Nat.{_/_, _≤_, _<_};
+ghost use Prim.Native.Nat.{_≤_, _<_};
 ghost use lib.ListN.{length};
 ghost use Rattle.words.specs.Words.{laid, Added};
 ghost use Rattle.typing.specs.Code.Shapes.{shapeAt, runAt, Inside, Near, Ready};
@@ -50,12 +50,11 @@ fn piece(k: u16, top: usize, g: Gathered) -> Run
     }
 }
 
-// Whether the children are as the first digit asks. 1 and 2 are the digits of the first's index that is to be the second's.
-fn meets(head: usize, stack: &[u16], top: usize, g: Gathered) -> bool
+// Whether the children are as the first digit of a rule asks. 1 and 2 are the digits of the first's index that is to be the second's.
+fn meets(test: u16, stack: &[u16], top: usize, g: Gathered) -> bool
     requires { ⌜ Ready top g (now stack) ⌝ }
-    ensures { λ r. ⌜ r ≡ met (ruleAt head / 4096) (shapeAt (now (stack .entry)) top (g .first)) (shapeAt (now (stack .entry)) (g .at) (g .latest)) (g .alike) ⌝ }
+    ensures { λ r. ⌜ r ≡ met test (shapeAt (now (stack .entry)) top (g .first)) (shapeAt (now (stack .entry)) (g .at) (g .latest)) (g .alike) ⌝ }
 {
-    let test = rule_of(head) / 4096;
     if test == 0 {
         return true;
     }
@@ -108,12 +107,11 @@ fn all_well(fit: bool, met: bool, product: bool, n: usize, m: usize) -> bool
     true
 }
 
-// What a head makes of its `n` children, at least one, whose indices meet or not.
-fn plan(head: usize, n: usize, met: bool, top: usize, g: Gathered) -> Plan
-    requires { ⌜ Near top g ⌝ }
+// What a head, by its rule, makes of its `n` children, at least one, whose indices meet or not.
+fn plan(head: usize, n: usize, rule: u16, met: bool, top: usize, g: Gathered) -> Plan
+    requires { ⌜ (rule ≡ ruleAt head) × Near top g ⌝ }
     ensures { λ r. ⌜ r ≡ planOf head n met top g ⌝ }
 {
-    let rule = rule_of(head);
     let a = g.first;
     let b = g.latest;
     let class = a.class;
@@ -193,7 +191,8 @@ pub fn conclude(head: usize, n: usize, stack: &mut [u16], top: usize, g: Gathere
     requires { ⌜ Ready top g (now stack) ⌝ }
     ensures { λ r. ⌜ Concludes head n top g (now (stack .entry)) r (now (stack .exit)) ⌝ }
 {
-    let p = plan(head, n, meets(head, stack, top, g), top, g);
+    let rule = rule_of(head);
+    let p = plan(head, n, rule, meets(rule / 4096, stack, top, g), top, g);
     let sorted = p.sorted;
     if !p.typed {
         return Outcome {

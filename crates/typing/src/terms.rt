@@ -1,5 +1,4 @@
 // The typing of one term.
-use crate::bodies::Around;
 use crate::infer::Verdict;
 use crate::infer::type_part;
 use crate::sorts::Sorted;
@@ -151,21 +150,17 @@ fn walk(ds: &[u16], ws: &[u16], stack: &mut [u16]) -> Verdict
     ensures { λ r. ⌜ Found (contextIn (now (ds .entry))) (now (ws .entry)) 64 0 r (now (stack .entry)) (now (stack .exit)) ⌝ }
 {
     let n = ws.len();
-    let none = Around {
-        bodies: 0,
-        inner: 0,
-    };
     if n <= 10 {
-        return type_part(ds, ws, stack, 0, none, 64);
+        return type_part(ds, ws, stack, 0, 64);
     }
     if n <= 30 {
         let mut larger = [0u16; 2048];
-        let found = type_part(ds, ws, &mut larger, 0, none, 64);
+        let found = type_part(ds, ws, &mut larger, 0, 64);
         copy_words(stack, &larger[..126]);
         return found;
     }
     let mut larger = [0u16; 8320];
-    let found = type_part(ds, ws, &mut larger, 0, none, 64);
+    let found = type_part(ds, ws, &mut larger, 0, 64);
     copy_words(stack, &larger[..126]);
     found
 }

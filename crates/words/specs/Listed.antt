@@ -1,7 +1,9 @@
--- Lists and tests by number: what a function gives for 0 .. n − 1.
-use mathlib.Core.Bool.{Bool, true, _&&_}
+-- Lists and tests by number, what a function gives for 0 .. n − 1; and two that many speak of: a word that a list lacks, the first of two answers.
+use mathlib.Core.Bool.{Bool, true, not, _&&_}
 use mathlib.Core.List.{List, [], _∷_}
+use mathlib.Core.Option.{Option, some, none}
 use Prim.Native.Nat.{ℕ, zero, suc}
+use lib.Dec.{eqb}
 
 -- the items of 0 .. n − 1
 unfoldable pub upTo : {A : Type 0} → ℕ → (ℕ → A) → List A
@@ -12,3 +14,13 @@ upTo (suc n) f = f 0 ∷ upTo n λ k. f (suc k)
 unfoldable pub allUpTo : ℕ → (ℕ → Bool) → Bool
 allUpTo zero f = true
 allUpTo (suc n) f = f 0 && allUpTo n λ k. f (suc k)
+
+-- a test that a number stands nowhere in a list
+unfoldable pub lacks : ℕ → List ℕ → Bool
+lacks w [] = true
+lacks w (v ∷ vs) = not (eqb v w) && lacks w vs
+
+-- the first of two answers that is one
+unfoldable pub orElse : {A : Type 0} → Option A → Option A → Option A
+orElse none b = b
+orElse (some a) b = some a

@@ -7,9 +7,9 @@ use lib.Dec.{eqb, ltb}
 use lib.ListN.{length, drop}
 use Rattle.term.specs.Trees.{Tree, words}
 use Rattle.term.specs.Terms.{maxDepth}
-use Rattle.types.specs.Sorts.{Sort, Context, inBodies}
+use Rattle.types.specs.Sorts.{Sort, Context}
 use Rattle.types.specs.Rules.{_⊢_∶_}
-use Rattle.declarations.specs.Declarations.{contextIn, goodDeclarations}
+use Rattle.declarations.specs.Declarations.{contextAt, goodDeclarations}
 use Rattle.rules.specs.Patterns.{firstIndex, secondIndex}
 use Rattle.rules.specs.Rewrite.{sortOf, holes}
 use Rattle.matcher.specs.declared.Match.{Match}
@@ -19,11 +19,8 @@ use Rattle.shapes.specs.Reading.{Begins}
 
 -- ---- a typed part, with such trees for the indices of the sums around it
 module _ (ds : List ℕ) (bodies : List Tree) where
-  abbrev pub around : Context
-  around = inBodies bodies (contextIn ds)
-
   abbrev pub Sorted : Tree → Type 0
-  Sorted t = (S : Sort) × (around ⊢ t ∶ S)
+  Sorted t = (S : Sort) × (contextAt ds bodies ⊢ t ∶ S)
 
   -- words that begin with one, under good declarations; `outer` tells the words of each index around
   pub record HasSort (outer : ℕ → List ℕ) (ws : List ℕ) : Type 0 where

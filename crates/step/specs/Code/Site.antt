@@ -8,13 +8,12 @@ use Rattle.term.specs.Trees.{Tree, words, Formed, depth}
 use Rattle.term.specs.Terms.{maxDepth}
 use Rattle.types.specs.Sorts.{Sort}
 use Rattle.types.specs.Rules.{_⊢_∶_}
-use Rattle.declarations.specs.Declarations.{goodDeclarations}
+use Rattle.declarations.specs.Declarations.{goodDeclarations, contextAt}
 use Rattle.shapes.specs.Bodies.{Bound, outerAt}
 use Rattle.rules.specs.Patterns.{Pattern}
 use Rattle.rules.specs.Table.{Condition, _⇒_▷_, ruleOf}
 use Rattle.rulebook.specs.declared.Row.{Row}
 use Rattle.rulebook.specs.Code.Rows.{rowOf}
-use Rattle.step.specs.Code.Building.{around}
 
 -- words from a place of a term on, which begin with the part there; `bodies` are what the sums around it have for an index
 pub record Site (ds term : List ℕ) (place : ℕ) (ws : List ℕ) : Type 0 where
@@ -25,7 +24,7 @@ pub record Site (ds term : List ℕ) (place : ℕ) (ws : List ℕ) : Type 0 wher
   pub formed : Formed tree
   pub shallow : depth tree ≤ maxDepth
   pub sort : Sort
-  pub typed : around ds bodies ⊢ tree ∶ sort
+  pub typed : contextAt ds bodies ⊢ tree ∶ sort
   pub after : List ℕ
   pub whole : ws ≡ words tree ++ after
 

@@ -3,7 +3,7 @@
 use mathlib.Core.Path.{_≡_}
 use mathlib.Core.Bool.{Bool, cond, not, _&&_}
 use mathlib.Core.List.{List, [], _∷_}
-use Prim.Native.Nat.{ℕ, zero, suc, _+_, _-_, _≤_}
+use Prim.Native.Nat.{ℕ, zero, suc, _+_, _-_, _/_, _%_, _≤_}
 use lib.Dec.{eqb, ltb, leb}
 use lib.ListN.{length, getD}
 use Rattle.words.specs.Words.{laid}
@@ -12,9 +12,22 @@ use Rattle.term.specs.Terms.{maxBodies}
 use Rattle.types.specs.TypeOf.{indexTree}
 use Rattle.typebook.specs.Code.Shapes.{numberOf}
 use Rattle.typing.specs.declared.sorts.Sorted as S
-use Rattle.typing.specs.declared.bodies.Around as B
 use Rattle.typing.specs.Code.Shapes.{run}
 
+-- ---- what a part is typed within, in one number: a struct would go through memory at each call
+-- how much deeper the call may go
+unfoldable pub budgetOf : ℕ → ℕ
+budgetOf within = within % 128
+
+-- how many bodies there are around the part, and where the record of the innermost sum stands
+pub record Around : Type 0 where
+  pub bodies : ℕ
+  pub inner : ℕ
+
+unfoldable pub aroundOf : ℕ → Around
+aroundOf within = record { bodies = within / 128 % 128; inner = within / 16384 }
+
+-- ---- the records
 -- the record of the a-th sum, from the innermost on
 unfoldable pub linkAt : List ℕ → ℕ → ℕ → ℕ
 linkAt st at zero = at
@@ -38,7 +51,7 @@ pub data Chained (types : ℕ) (st : List ℕ) : ℕ → ℕ → List Tree → T
   bound : {top inner : ℕ} {σ : Tree} {bs : List Tree} → Sum types st top inner σ → Chained types st inner (getD st (inner + 1) 0) bs → Chained types st top inner (σ ∷ bs)
 
 -- the trees of so many sums
-pub record Held (types : ℕ) (st : List ℕ) (top : ℕ) (a : B.Around) : Type 0 where
+pub record Held (types : ℕ) (st : List ℕ) (top : ℕ) (a : Around) : Type 0 where
   pub trees : List Tree
   pub chain : Chained types st top (a .inner) trees
   pub long : length trees ≡ a .bodies
@@ -53,11 +66,11 @@ enters h k = eqb h 27 && not (eqb k 0)
 abbrev pub recordAt : ℕ → S.Sorted → ℕ
 recordAt top first = top + first .left + first .right
 
-unfoldable pub entered : ℕ → ℕ → ℕ → S.Sorted → B.Around → B.Around
+unfoldable pub entered : ℕ → ℕ → ℕ → S.Sorted → Around → Around
 unfolding enters
 entered h k top first a = cond (enters h k) (record { bodies = a .bodies + 1; inner = recordAt top first }) a
 
-unfoldable pub enteredOn : ℕ → ℕ → ℕ → S.Sorted → B.Around → List ℕ → List ℕ
+unfoldable pub enteredOn : ℕ → ℕ → ℕ → S.Sorted → Around → List ℕ → List ℕ
 unfolding enters indexLen
 enteredOn h k top first a st = cond (enters h k) (laid st (recordAt top first) (indexLen first ∷ a .inner ∷ [])) st
 

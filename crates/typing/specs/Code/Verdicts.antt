@@ -88,11 +88,6 @@ entryOf ds w =
 abbrev pub need : ℕ → ℕ → ℕ
 need n budget = min (64 * n + 128) (128 * budget + 128)
 
--- the context where sums over these trees are around
-unfoldable pub contextAt : List ℕ → List Tree → Context
-unfolding contextIn
-contextAt ds bs = record { types = contextIn ds .types; bases = contextIn ds .bases; variables = contextIn ds .variables; bound = bs }
-
 -- a typed part: it is whole and no deeper than the budget, and its words stand on the stack
 pub record Settled (Γ : Context) (ws : List ℕ) (budget top : ℕ) (r : Answer.Verdict) (st : List ℕ) : Type 0 where
   pub sort : Sort

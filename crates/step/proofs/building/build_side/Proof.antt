@@ -9,8 +9,9 @@ use lib.ListN.{length, take}
 use lib.Seq.{take-all}
 use Rattle.words.specs.Words.{Added}
 use Rattle.words.proofs.Runs.{added-both, none-added, added-as}
+use Rattle.declarations.specs.Declarations.{contextAt}
 use Rattle.shapes.specs.Bodies.{outerAt}
-use Rattle.step.specs.Code.Building.{around, pieces, indexless, Caught, AllSorted}
+use Rattle.step.specs.Code.Building.{pieces, indexless, Caught, AllSorted}
 use Rattle.step.proofs.Pieces.{side-asks, side-more, side-typed}
 use Rattle.step.proofs.building.build_side.Statement.{statement}
 use Rattle.step.proofs.building.build_side.Tie as tie
@@ -18,7 +19,7 @@ use Rattle.step.proofs.building.build_side.Tie as tie
 abbrev Inv-loop : tie.InvT-loop
 Inv-loop ds term place ws m side out₀ at done₀ k₀ out done k =
     (k ≤ length side) × (length out ≡ length out₀)
-    × ((x : Caught ds ws m) → x .outer ≡ outerAt term place → (indexless side ≡ true) ⊎ AllSorted x → Added out₀ at (pieces (around ds (x .bodies)) (x .trees) (take k side)) out done)
+    × ((x : Caught ds ws m) → x .outer ≡ outerAt term place → (indexless side ≡ true) ⊎ AllSorted x → Added out₀ at (pieces (contextAt ds (x .bodies)) (x .trees) (take k side)) out done)
 
 abbrev μ-loop : tie.MeasureT-loop
 μ-loop ds term place ws m side out₀ at done₀ k₀ out done k = length side - k
@@ -54,7 +55,7 @@ loop-again c =
     let first = start .pre .0 in (
       omega arith,
       written (first .0) (first .1) (side-typed _ _ more (first .2)) .size ∙ loop .inv .1,
-      λ x o t. added-as (side-more _ _ more (around (start .args .ds .now) (x .bodies)) (x .trees)) (added-both (loop .inv .2 x o t) (written x o (side-typed _ _ more t))),
+      λ x o t. added-as (side-more _ _ more (contextAt (start .args .ds .now) (x .bodies)) (x .trees)) (added-both (loop .inv .2 x o t) (written x o (side-typed _ _ more t))),
     )
 
 same-length : tie.Need-same-length Inv-loop μ-loop
@@ -64,7 +65,7 @@ returns : tie.Need-returns Inv-loop μ-loop
 returns c =
     let args = c .before .before .before .before .before .before .before .args in
     let all = take-all (c .before .loop .k) (args .side .now) (c .loop-test .left) in
-    λ x o t. added-as (ap (pieces (around (args .ds .now) (x .bodies)) (x .trees)) all) (c .before .loop .inv .2 x o t)
+    λ x o t. added-as (ap (pieces (contextAt (args .ds .now) (x .bodies)) (x .trees)) all) (c .before .loop .inv .2 x o t)
 
 pub build-side-spec : {M : Type 1} → statement M
 build-side-spec =

@@ -4,7 +4,7 @@ use Prim.Native.Nat.{_-_, _≤_}
 use native.Mathlib.Omega.{arith}
 use borrow.Author.Needs.{needs}
 use lib.ListN.{length, drop}
-use Rattle.rules.specs.Instances.{lacks}
+use Rattle.words.specs.Listed.{lacks}
 use Rattle.step.proofs.Conditions.{lacks-here, lacks-more, lacks-end}
 use Rattle.step.proofs.equations.is_without.Statement.{statement}
 use Rattle.step.proofs.equations.is_without.Tie as tie

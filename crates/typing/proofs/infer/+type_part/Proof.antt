@@ -10,9 +10,9 @@ use borrow.Fn.PlainCycle.{Measures, is, falls, and}
 use lib.ListN.{length, take, drop, getD, length-drop}
 use Rattle.words.proofs.Runs.{to-end}
 use Rattle.term.proofs.Scan.{children-few}
-use Rattle.typing.specs.Code.Chains.{Held}
-use Rattle.typing.specs.Code.Verdicts.{contextAt}
-use Rattle.typing.proofs.Binding.{bodies-at, chain-low}
+use Rattle.declarations.specs.Declarations.{contextAt}
+use Rattle.typing.specs.Code.Chains.{budgetOf, aroundOf, Held}
+use Rattle.typing.proofs.Binding.{chain-low}
 use Rattle.typing.proofs.Passing.{found-none, no-head, no-budget}
 use Rattle.typing.proofs.Walked.{Walked, leaf-found, walked-none, entering, within-few, within-long, child-found, child-long, walked-on, walked-fails, walked-ninth, walked-all, free-at, ready, child-inside}
 use Rattle.typing.proofs.infer.type_part.Reads as type-part
@@ -21,6 +21,7 @@ use Rattle.typing.proofs.infer.+type_part.Lts-type_part as type-part-lt
 use Rattle.words.proofs.word_at.Reads as word-at-reads
 use Rattle.term.proofs.heads.arity_of.Reads as arity-of-reads
 use Rattle.term.proofs.parts.larger.Reads as larger-reads
+use Rattle.typing.proofs.bodies.budget_of.Reads as budget-of-reads
 use Rattle.typing.proofs.bodies.enter.Reads as enter-reads
 use Rattle.typing.proofs.bodies.is_ninth.Reads as is-ninth-reads
 use Rattle.typing.proofs.gathering.gather.Reads as gather-reads
@@ -33,7 +34,7 @@ use Rattle.typing.proofs.infer.+type_part.{statement}
 use Rattle.typing.proofs.infer.+type_part.Tie.{close}
 
 abbrev μ-type-part : Measures 3 type-part-kinds.ps ℕ
-μ-type-part κs a = a .1 .1 .1 .1 .1 .0
+μ-type-part κs a = budgetOf (a .1 .1 .1 .1 .0)
 
 abbrev type-part-at : ℕ → In 3 type-part-kinds.ps
 type-part-at t = and 3 type-part-kinds.ps (is 3 type-part-kinds.ps μ-type-part t) type-part.Pre
@@ -44,6 +45,8 @@ type-part-below t =
 
 abbrev claims : ℕ → type-part-lts.Claims
 claims t = (
+  budget-of-reads.Asked,
+  budget-of-reads.Learnt,
   refused-reads.Asked,
   refused-reads.Learnt,
   word-at-reads.Asked,
@@ -71,17 +74,20 @@ claims t = (
 )
 
 abbrev type-part-Inv-loop : type-part-lts.InvT-loop
-type-part-Inv-loop ds ws stack₀ top around budget word n head g₀ deepest₀ next₀ k₀ stack g deepest next k =
-    (k ≤ n) × ((x : Held (getD ds 0 0) stack₀ top around) → Walked (contextAt ds (x .trees)) ws budget top head next k deepest g stack₀ stack)
+type-part-Inv-loop ds ws stack₀ top within word n head g₀ deepest₀ next₀ k₀ stack g deepest next k =
+    (k ≤ n) × ((x : Held (getD ds 0 0) stack₀ top (aroundOf within)) → Walked (contextAt ds (x .trees)) ws (budgetOf within) top head next k deepest g stack₀ stack)
 
 abbrev type-part-μ-loop : type-part-lts.MeasureT-loop
-type-part-μ-loop ds ws stack₀ top around budget word n head g₀ deepest₀ next₀ k₀ stack g deepest next k = n - k
+type-part-μ-loop ds ws stack₀ top within word n head g₀ deepest₀ next₀ k₀ stack g deepest next k = n - k
+
+type-part-budget-of-requires : (t : ℕ) → type-part-lts.Need-budget-of-requires (claims t) (type-part-at t) type-part.Post type-part-Inv-loop type-part-μ-loop
+type-part-budget-of-requires t c κs = search needs
 
 type-part-refused-requires : (t : ℕ) → type-part-lts.Need-refused-requires (claims t) (type-part-at t) type-part.Post type-part-Inv-loop type-part-μ-loop
 type-part-refused-requires t c κs = search needs
 
 type-part-returns : (t : ℕ) → type-part-lts.Need-returns (claims t) (type-part-at t) type-part.Post type-part-Inv-loop type-part-μ-loop
-type-part-returns t c = λ x. found-none (c .refused .ensures) (λ h s. no-budget _ (c .before .if1 .taken) h s)
+type-part-returns t c = λ x. found-none (c .refused .ensures) (λ h s. no-budget _ (sym (c .before .before .budget-of .ensures) ∙ c .before .if1 .taken) h s)
 
 type-part-word-at-requires : (t : ℕ) → type-part-lts.Need-word-at-requires (claims t) (type-part-at t) type-part.Post type-part-Inv-loop type-part-μ-loop
 type-part-word-at-requires t c κs = search needs
@@ -103,7 +109,7 @@ type-part-returns-2 t c = λ x. found-none (c .refused2 .ensures) (λ h s. no-he
 
 type-part-conclude-leaf-requires : (t : ℕ) → type-part-lts.Need-conclude-leaf-requires (claims t) (type-part-at t) type-part.Post type-part-Inv-loop type-part-μ-loop
 type-part-conclude-leaf-requires t c κs =
-    let start = c .before .before .before .before .before .before .before .before .before .before .before in
+    let start = c .before .before .before .before .before .before .before .before .before .before .before .before in
     let r = start .pre .1 .1 in
     (start .pre .1 .0, omega arith, start .pre .1 .2, start .pre .1 .4)
 
@@ -117,6 +123,7 @@ type-part-returns-3 : (t : ℕ) → type-part-lts.Need-returns-3 (claims t) (typ
 type-part-returns-3 t c =
     let told = c .before .before .before .before .before .before in
     let z = told .before .before .before .before .before .if1 .left in
+    let b = told .before .before .before .before .before .before .budget-of .ensures in
     λ x. leaf-found _ (x .trees) (rw (told .before .before .before .before .word-at .ensures) at (sym (told .before .before .before .arity-of .ensures) ∙ told .before .n .given .1)) (c .before .before .before .before .before .if2 .taken) (omega arith) (rw (told .before .before .before .before .word-at .ensures) at (c .before .before .before .conclude-leaf .ensures x)) (c .settled .ensures)
 
 type-part-cast-head : (t : ℕ) → type-part-lts.Need-cast-head (claims t) (type-part-at t) type-part.Post type-part-Inv-loop type-part-μ-loop
@@ -129,65 +136,67 @@ type-part-loop-holds : (t : ℕ) → type-part-lts.Need-loop-holds (claims t) (t
 type-part-loop-holds t c =
     let told = c .before .before in
     let z = told .before .before .before .before .before .if1 .left in
+    let b = told .before .before .before .before .before .before .budget-of .ensures in
     (omega arith, λ x. walked-none (rw (told .before .before .before .before .word-at .ensures) at (sym (told .before .before .before .arity-of .ensures) ∙ told .before .n .given .1)) (omega arith) (c .none-yet .ensures))
 
 type-part-enter-requires : (t : ℕ) → type-part-lts.Need-enter-requires (claims t) (type-part-at t) type-part.Post type-part-Inv-loop type-part-μ-loop
 type-part-enter-requires t c κs =
     let at = c .before .before .before in
-    let start = at .before .before .before .before .before .before .before .before .before .before .before .before in
+    let start = at .before .before .before .before .before .before .before .before .before .before .before .before .before in
     let x = start .pre .1 .4 in
     let w = at .loop .inv .1 x in
     let r = start .pre .1 .1 in
     let l = w .kept .long in
     let m = start .pre .1 .2 in
     let u = start .pre .1 .3 in
-    (omega arith, omega arith, free-at w .small, omega (arith, chain-low (x .chain)), omega arith)
+    let z = at .before .before .before .before .before .before .before .before .if1 .left in
+    let b = at .before .before .before .before .before .before .before .before .before .budget-of .ensures in
+    (omega arith, omega arith, free-at w .small, omega (arith, chain-low (x .chain)), omega arith, omega arith)
 
 type-part-mul-type-part : (t : ℕ) → type-part-lts.Need-mul-type-part (claims t) (type-part-at t) type-part.Post type-part-Inv-loop type-part-μ-loop
 type-part-mul-type-part t c =
     let at = c .before .before .before .before .before .before in
-    let start = at .before .before .before .before .before .before .before .before .before .before .before .before in
+    let start = at .before .before .before .before .before .before .before .before .before .before .before .before .before in
     let i = at .loop .inv .1 (start .pre .1 .4) .inside in
     search needs
 
 type-part-sub-type-part : (t : ℕ) → type-part-lts.Need-sub-type-part (claims t) (type-part-at t) type-part.Post type-part-Inv-loop type-part-μ-loop
 type-part-sub-type-part t c =
     let at = c .before .before .before .before .before .before in
-    let start = at .before .before .before .before .before .before .before .before .before .before .before .before in
+    let start = at .before .before .before .before .before .before .before .before .before .before .before .before .before in
     let i = at .loop .inv .1 (start .pre .1 .4) .inside in
     search needs
 
 type-part-part-type-part-start : (t : ℕ) → type-part-lts.Need-part-type-part-start (claims t) (type-part-at t) type-part.Post type-part-Inv-loop type-part-μ-loop
 type-part-part-type-part-start t c =
     let at = c .before .before .before .before .before .before in
-    let start = at .before .before .before .before .before .before .before .before .before .before .before .before in
+    let start = at .before .before .before .before .before .before .before .before .before .before .before .before .before in
     let i = at .loop .inv .1 (start .pre .1 .4) .inside in
     search needs
 
 type-part-part-type-part-end : (t : ℕ) → type-part-lts.Need-part-type-part-end (claims t) (type-part-at t) type-part.Post type-part-Inv-loop type-part-μ-loop
 type-part-part-type-part-end t c =
     let at = c .before .before .before .before .before .before in
-    let start = at .before .before .before .before .before .before .before .before .before .before .before .before in
+    let start = at .before .before .before .before .before .before .before .before .before .before .before .before .before in
     let i = at .loop .inv .1 (start .pre .1 .4) .inside in
     search needs
-
-type-part-sub-type-part-2 : (t : ℕ) → type-part-lts.Need-sub-type-part-2 (claims t) (type-part-at t) type-part.Post type-part-Inv-loop type-part-μ-loop
-type-part-sub-type-part-2 t c = search needs
 
 type-part-type-part-requires : (t : ℕ) → type-part-lts.Need-type-part-requires (claims t) (type-part-at t) type-part.Post type-part-Inv-loop type-part-μ-loop
 type-part-type-part-requires t c κs =
     let at = c .before .before .before .before .before .before .before .before in
-    let start = at .before .before .before .before .before .before .before .before .before .before .before .before in
+    let start = at .before .before .before .before .before .before .before .before .before .before .before .before .before in
+    let n = c .before .before .before .before .enter .ensures in
     let x = start .pre .1 .4 in
     let w = at .loop .inv .1 x in
-    let e = entering _ (start .pre .1 .0) x w (start .pre .1 .1) (c .before .before .before .before .enter .ensures .0) (c .before .before .before .before .enter .ensures .1) in
+    let e = entering _ (start .pre .1 .0) x w (start .pre .1 .1) (n .0) (n .2) in
     let f = free-at w .upTo in
-    let l = within-long _ (start .pre .1 .0) x w (start .pre .1 .1) (c .before .before .before .before .enter .ensures .0) (c .before .before .before .before .enter .ensures .1) in
-    let more = within-few _ (start .pre .1 .0) x w (start .pre .1 .1) (c .before .before .before .before .enter .ensures .0) (c .before .before .before .before .enter .ensures .1) in
+    let l = within-long _ (start .pre .1 .0) x w (start .pre .1 .1) (n .0) (n .2) in
+    let more = within-few _ (start .pre .1 .0) x w (start .pre .1 .1) (n .0) (n .2) in
     let r = start .pre .1 .1 in
     let v = start .pre .1 .2 in
     let m = start .pre .1 .3 in
     let z = at .before .before .before .before .before .before .before .before .if1 .left in
+    let b = at .before .before .before .before .before .before .before .before .before .budget-of .ensures in
     let u = start .pre .0 in
     let near = w .near in
     let i = w .inside in
@@ -197,10 +206,11 @@ type-part-type-part-requires t c κs =
 type-part-add-refused : (t : ℕ) → type-part-lts.Need-add-refused (claims t) (type-part-at t) type-part.Post type-part-Inv-loop type-part-μ-loop
 type-part-add-refused t c =
     let at = c .before .before .before .before .before .before .before .before .before .before .before .before .before .before in
-    let start = at .before .before .before .before .before .before .before .before .before .before .before .before in
+    let start = at .before .before .before .before .before .before .before .before .before .before .before .before .before in
+    let n = c .before .before .before .before .before .before .before .before .before .before .enter .ensures in
     let x = start .pre .1 .4 in
     let w = at .loop .inv .1 x in
-    let f = child-found _ (start .pre .1 .0) x w (start .pre .1 .1) (c .before .before .before .before .before .before .before .before .before .before .enter .ensures .0) (c .before .before .before .before .before .before .before .before .before .before .enter .ensures .1) (rw (to-end (start .args .ws .now) (at .loop .next)) at (c .before .before .before .before .before .type-part .ensures)) in
+    let f = child-found _ (start .pre .1 .0) x w (start .pre .1 .1) (n .0) (n .2) (rw (to-end (start .args .ws .now) (at .loop .next), n .1) at (c .before .before .before .before .before .type-part .ensures)) in
     omega (arith, start .good .1 .0, length-drop (at .loop .next) (start .args .ws .now), f .bound, w .inside)
 
 type-part-refused-requires-3 : (t : ℕ) → type-part-lts.Need-refused-requires-3 (claims t) (type-part-at t) type-part.Post type-part-Inv-loop type-part-μ-loop
@@ -209,28 +219,32 @@ type-part-refused-requires-3 t c κs = search needs
 type-part-same-length-2 : (t : ℕ) → type-part-lts.Need-same-length-2 (claims t) (type-part-at t) type-part.Post type-part-Inv-loop type-part-μ-loop
 type-part-same-length-2 t c =
     let at = c .before .before .before .before .before .before .before .before .before .before .before .before .before .before .before in
-    let start = at .before .before .before .before .before .before .before .before .before .before .before .before in
+    let start = at .before .before .before .before .before .before .before .before .before .before .before .before .before in
+    let n = c .before .before .before .before .before .before .before .before .before .before .before .enter .ensures in
     let x = start .pre .1 .4 in
     let w = at .loop .inv .1 x in
-    child-long _ (start .pre .1 .0) x w (start .pre .1 .1) (c .before .before .before .before .before .before .before .before .before .before .before .enter .ensures .0) (c .before .before .before .before .before .before .before .before .before .before .before .enter .ensures .1) (rw (to-end (start .args .ws .now) (at .loop .next)) at (c .before .before .before .before .before .before .type-part .ensures))
+    child-long _ (start .pre .1 .0) x w (start .pre .1 .1) (n .0) (n .2) (rw (to-end (start .args .ws .now) (at .loop .next), n .1) at (c .before .before .before .before .before .before .type-part .ensures))
 
 type-part-returns-4 : (t : ℕ) → type-part-lts.Need-returns-4 (claims t) (type-part-at t) type-part.Post type-part-Inv-loop type-part-μ-loop
 type-part-returns-4 t c =
     let at = c .before .before .before .before .before .before .before .before .before .before .before .before .before .before .before in
-    let start = at .before .before .before .before .before .before .before .before .before .before .before .before in
-    λ x. walked-fails _ (start .pre .1 .0) x (at .loop .inv .1 x) (start .pre .1 .1) (c .before .before .before .before .before .before .before .before .before .before .before .enter .ensures .0) (c .before .before .before .before .before .before .before .before .before .before .before .enter .ensures .1) (rw (to-end (start .args .ws .now) (at .loop .next)) at (c .before .before .before .before .before .before .type-part .ensures)) (ap (λ (w : ℕ). w / 256) (at .before .before .before .before .before .before .before .word-at .ensures)) (rw (at .before .before .before .before .before .before .before .word-at .ensures) at (sym (at .before .before .before .before .before .before .arity-of .ensures) ∙ at .before .before .before .before .n .given .1)) (c .before .before .before .before .before .before .before .before .before .before .before .before .before .before .loop-test .taken) (not-true _ (c .before .before .if3 .taken)) (c .refused3 .ensures)
+    let start = at .before .before .before .before .before .before .before .before .before .before .before .before .before in
+    let n = c .before .before .before .before .before .before .before .before .before .before .before .enter .ensures in
+    λ x. walked-fails _ (start .pre .1 .0) x (at .loop .inv .1 x) (start .pre .1 .1) (n .0) (n .2) (rw (to-end (start .args .ws .now) (at .loop .next), n .1) at (c .before .before .before .before .before .before .type-part .ensures)) (ap (λ (w : ℕ). w / 256) (at .before .before .before .before .before .before .before .word-at .ensures)) (rw (at .before .before .before .before .before .before .before .word-at .ensures) at (sym (at .before .before .before .before .before .before .arity-of .ensures) ∙ at .before .before .before .before .n .given .1)) (c .before .before .before .before .before .before .before .before .before .before .before .before .before .before .loop-test .taken) (not-true _ (c .before .before .if3 .taken)) (c .refused3 .ensures)
 
 type-part-gather-requires : (t : ℕ) → type-part-lts.Need-gather-requires (claims t) (type-part-at t) type-part.Post type-part-Inv-loop type-part-μ-loop
 type-part-gather-requires t c κs =
     let at = c .before .before .before .before .before .before .before .before .before .before .before .before .before .before .before in
-    let start = at .before .before .before .before .before .before .before .before .before .before .before .before in
+    let start = at .before .before .before .before .before .before .before .before .before .before .before .before .before in
+    let n = c .before .before .before .before .before .before .before .before .before .before .before .enter .ensures in
     let x = start .pre .1 .4 in
     let w = at .loop .inv .1 x in
-    let f = child-found _ (start .pre .1 .0) x w (start .pre .1 .1) (c .before .before .before .before .before .before .before .before .before .before .before .enter .ensures .0) (c .before .before .before .before .before .before .before .before .before .before .before .enter .ensures .1) (rw (to-end (start .args .ws .now) (at .loop .next)) at (c .before .before .before .before .before .before .type-part .ensures)) in
-    let l = child-long _ (start .pre .1 .0) x w (start .pre .1 .1) (c .before .before .before .before .before .before .before .before .before .before .before .enter .ensures .0) (c .before .before .before .before .before .before .before .before .before .before .before .enter .ensures .1) (rw (to-end (start .args .ws .now) (at .loop .next)) at (c .before .before .before .before .before .before .type-part .ensures)) in
+    let f = child-found _ (start .pre .1 .0) x w (start .pre .1 .1) (n .0) (n .2) (rw (to-end (start .args .ws .now) (at .loop .next), n .1) at (c .before .before .before .before .before .before .type-part .ensures)) in
+    let l = child-long _ (start .pre .1 .0) x w (start .pre .1 .1) (n .0) (n .2) (rw (to-end (start .args .ws .now) (at .loop .next), n .1) at (c .before .before .before .before .before .before .type-part .ensures)) in
     let r = start .pre .1 .1 in
     let u = free-at w .upTo in
     let z = at .before .before .before .before .before .before .before .before .if1 .left in
+    let b = at .before .before .before .before .before .before .before .before .before .budget-of .ensures in
     let near = w .near in
     let i = w .inside in
     (omega arith, omega arith, free-at w .small, f .settled (not-false _ (c .before .before .if3 .left)) .small)
@@ -241,16 +255,17 @@ type-part-larger-requires t c κs = search needs
 type-part-add-next : (t : ℕ) → type-part-lts.Need-add-next (claims t) (type-part-at t) type-part.Post type-part-Inv-loop type-part-μ-loop
 type-part-add-next t c =
     let at = c .before .before .before .before .before .before .before .before .before .before .before .before .before .before .before .before .before .before in
-    let start = at .before .before .before .before .before .before .before .before .before .before .before .before in
+    let start = at .before .before .before .before .before .before .before .before .before .before .before .before .before in
+    let n = c .before .before .before .before .before .before .before .before .before .before .before .before .before .before .enter .ensures in
     let x = start .pre .1 .4 in
     let w = at .loop .inv .1 x in
-    let f = child-found _ (start .pre .1 .0) x w (start .pre .1 .1) (c .before .before .before .before .before .before .before .before .before .before .before .before .before .before .enter .ensures .0) (c .before .before .before .before .before .before .before .before .before .before .before .before .before .before .enter .ensures .1) (rw (to-end (start .args .ws .now) (at .loop .next)) at (c .before .before .before .before .before .before .before .before .before .type-part .ensures)) in
+    let f = child-found _ (start .pre .1 .0) x w (start .pre .1 .1) (n .0) (n .2) (rw (to-end (start .args .ws .now) (at .loop .next), n .1) at (c .before .before .before .before .before .before .before .before .before .type-part .ensures)) in
     omega (arith, start .good .1 .0, child-inside w (f .settled (not-false _ (c .before .before .before .before .before .if3 .left))))
 
 type-part-add-k : (t : ℕ) → type-part-lts.Need-add-k (claims t) (type-part-at t) type-part.Post type-part-Inv-loop type-part-μ-loop
 type-part-add-k t c =
     let at = c .before .before .before .before .before .before .before .before .before .before .before .before .before .before .before .before .before .before in
-    let start = at .before .before .before .before .before .before .before .before .before .before .before .before in
+    let start = at .before .before .before .before .before .before .before .before .before .before .before .before .before in
     omega (arith, children-few _ _ (rw (at .before .before .before .before .before .before .before .word-at .ensures) at (sym (at .before .before .before .before .before .before .arity-of .ensures) ∙ at .before .before .before .before .n .given .1)))
 
 type-part-loop-less : (t : ℕ) → type-part-lts.Need-loop-less (claims t) (type-part-at t) type-part.Post type-part-Inv-loop type-part-μ-loop
@@ -259,10 +274,11 @@ type-part-loop-less t c = let u = c .before .before .before .before .before .bef
 type-part-loop-again : (t : ℕ) → type-part-lts.Need-loop-again (claims t) (type-part-at t) type-part.Post type-part-Inv-loop type-part-μ-loop
 type-part-loop-again t c =
     let at = c .before .before .before .before .before .before .before .before .before .before .before .before .before .before .before .before .before .before in
-    let start = at .before .before .before .before .before .before .before .before .before .before .before .before in
+    let start = at .before .before .before .before .before .before .before .before .before .before .before .before .before in
+    let n = c .before .before .before .before .before .before .before .before .before .before .before .before .before .before .enter .ensures in
     let k = at .loop .inv .0 in
     let u = c .before .before .before .before .before .before .before .before .before .before .before .before .before .before .before .before .before .loop-test .taken in
-    (omega arith, λ x. walked-on _ (start .pre .1 .0) x (at .loop .inv .1 x) (start .pre .1 .1) (c .before .before .before .before .before .before .before .before .before .before .before .before .before .before .enter .ensures .0) (c .before .before .before .before .before .before .before .before .before .before .before .before .before .before .enter .ensures .1) (rw (to-end (start .args .ws .now) (at .loop .next)) at (c .before .before .before .before .before .before .before .before .before .type-part .ensures)) (not-false _ (c .before .before .before .before .before .if3 .left)) (c .before .before .gather .ensures) (c .before .larger .ensures))
+    (omega arith, λ x. walked-on _ (start .pre .1 .0) x (at .loop .inv .1 x) (start .pre .1 .1) (n .0) (n .2) (rw (to-end (start .args .ws .now) (at .loop .next), n .1) at (c .before .before .before .before .before .before .before .before .before .type-part .ensures)) (not-false _ (c .before .before .before .before .before .if3 .left)) (c .before .before .gather .ensures) (c .before .larger .ensures))
 
 type-part-is-ninth-requires : (t : ℕ) → type-part-lts.Need-is-ninth-requires (claims t) (type-part-at t) type-part.Post type-part-Inv-loop type-part-μ-loop
 type-part-is-ninth-requires t c κs = search needs
@@ -273,21 +289,21 @@ type-part-refused-requires-4 t c κs = search needs
 type-part-same-length-3 : (t : ℕ) → type-part-lts.Need-same-length-3 (claims t) (type-part-at t) type-part.Post type-part-Inv-loop type-part-μ-loop
 type-part-same-length-3 t c =
     let at = c .before .before .before .before in
-    let start = at .before .before .before .before .before .before .before .before .before .before .before .before in
+    let start = at .before .before .before .before .before .before .before .before .before .before .before .before .before in
     at .loop .inv .1 (start .pre .1 .4) .kept .long
 
 type-part-returns-5 : (t : ℕ) → type-part-lts.Need-returns-5 (claims t) (type-part-at t) type-part.Post type-part-Inv-loop type-part-μ-loop
 type-part-returns-5 t c =
     let at = c .before .before .before .before in
-    let start = at .before .before .before .before .before .before .before .before .before .before .before .before in
+    let start = at .before .before .before .before .before .before .before .before .before .before .before .before .before in
     let k = at .loop .inv .0 in
     let e = c .before .before .before .loop-test .left in
-    λ x. walked-ninth (at .loop .inv .1 x) (rw (at .before .before .before .before .before .before .before .word-at .ensures) at (sym (at .before .before .before .before .before .before .arity-of .ensures) ∙ at .before .before .before .before .n .given .1)) (omega arith) (ap (λ (w : ℕ). w / 256) (at .before .before .before .before .before .before .before .word-at .ensures)) (bodies-at _ x) (c .before .before .is-ninth .ensures) (c .before .if4 .taken) (c .refused4 .ensures)
+    λ x. walked-ninth (at .loop .inv .1 x) (rw (at .before .before .before .before .before .before .before .word-at .ensures) at (sym (at .before .before .before .before .before .before .arity-of .ensures) ∙ at .before .before .before .before .n .given .1)) (omega arith) (ap (λ (w : ℕ). w / 256) (at .before .before .before .before .before .before .before .word-at .ensures)) (x .long) (c .before .before .is-ninth .ensures) (c .before .if4 .taken) (c .refused4 .ensures)
 
 type-part-add-settled : (t : ℕ) → type-part-lts.Need-add-settled (claims t) (type-part-at t) type-part.Post type-part-Inv-loop type-part-μ-loop
 type-part-add-settled t c =
     let at = c .before .before .before in
-    let start = at .before .before .before .before .before .before .before .before .before .before .before .before in
+    let start = at .before .before .before .before .before .before .before .before .before .before .before .before .before in
     let s = at .loop .inv .1 (start .pre .1 .4) .shallow in
     let u = start .pre .1 .3 in
     search needs
@@ -295,12 +311,13 @@ type-part-add-settled t c =
 type-part-conclude-requires : (t : ℕ) → type-part-lts.Need-conclude-requires (claims t) (type-part-at t) type-part.Post type-part-Inv-loop type-part-μ-loop
 type-part-conclude-requires t c κs =
     let at = c .before .before .before .before in
-    let start = at .before .before .before .before .before .before .before .before .before .before .before .before in
+    let start = at .before .before .before .before .before .before .before .before .before .before .before .before .before in
     let x = start .pre .1 .4 in
     let w = at .loop .inv .1 x in
     let r = start .pre .1 .1 in
     let l = w .kept .long in
     let z = at .before .before .before .before .before .before .before .before .if1 .left in
+    let b = at .before .before .before .before .before .before .before .before .before .budget-of .ensures in
     let n = at .before .before .if2 .left in
     let k = at .loop .inv .0 in
     let e = c .before .before .before .loop-test .left in
@@ -315,17 +332,17 @@ type-part-settled-requires-2 t c κs = search needs
 type-part-same-length-4 : (t : ℕ) → type-part-lts.Need-same-length-4 (claims t) (type-part-at t) type-part.Post type-part-Inv-loop type-part-μ-loop
 type-part-same-length-4 t c =
     let at = c .before .before .before .before .before .before .before .before in
-    let start = at .before .before .before .before .before .before .before .before .before .before .before .before in
+    let start = at .before .before .before .before .before .before .before .before .before .before .before .before .before in
     let l = at .loop .inv .1 (start .pre .1 .4) .kept .long in
     search needs
 
 type-part-returns-6 : (t : ℕ) → type-part-lts.Need-returns-6 (claims t) (type-part-at t) type-part.Post type-part-Inv-loop type-part-μ-loop
 type-part-returns-6 t c =
     let at = c .before .before .before .before .before .before .before .before in
-    let start = at .before .before .before .before .before .before .before .before .before .before .before .before in
+    let start = at .before .before .before .before .before .before .before .before .before .before .before .before .before in
     let k = at .loop .inv .0 in
     let e = c .before .before .before .before .before .before .before .loop-test .left in
-    λ x. walked-all (at .loop .inv .1 x) (rw (at .before .before .before .before .before .before .before .word-at .ensures) at (sym (at .before .before .before .before .before .before .arity-of .ensures) ∙ at .before .before .before .before .n .given .1)) (omega arith) (ap (λ (w : ℕ). w / 256) (at .before .before .before .before .before .before .before .word-at .ensures)) (bodies-at _ x) (c .before .before .before .before .before .before .is-ninth .ensures) (c .before .before .before .before .before .if4 .left) (at .before .before .if2 .left) (c .before .before .before .conclude .ensures) (c .settled2 .ensures)
+    λ x. walked-all (at .loop .inv .1 x) (rw (at .before .before .before .before .before .before .before .word-at .ensures) at (sym (at .before .before .before .before .before .before .arity-of .ensures) ∙ at .before .before .before .before .n .given .1)) (omega arith) (ap (λ (w : ℕ). w / 256) (at .before .before .before .before .before .before .before .word-at .ensures)) (x .long) (c .before .before .before .before .before .before .is-ninth .ensures) (c .before .before .before .before .before .if4 .left) (at .before .before .if2 .left) (c .before .before .before .conclude .ensures) (c .settled2 .ensures)
 
 pub +type-part-spec : {M : Type 1} → statement M
 +type-part-spec = close μ-type-part λ t. type-part-lts.spec (claims t)
@@ -333,6 +350,7 @@ pub +type-part-spec : {M : Type 1} → statement M
     type-part.Post
     type-part-Inv-loop
     type-part-μ-loop
+    (type-part-budget-of-requires t)
     (type-part-refused-requires t)
     (type-part-returns t)
     (type-part-word-at-requires t)
@@ -353,7 +371,6 @@ pub +type-part-spec : {M : Type 1} → statement M
     (type-part-sub-type-part t)
     (type-part-part-type-part-start t)
     (type-part-part-type-part-end t)
-    (type-part-sub-type-part-2 t)
     (type-part-type-part-requires t)
     (type-part-add-refused t)
     (type-part-refused-requires-3 t)

@@ -35,8 +35,8 @@ returns-2 c = λ x. rw (c .word-at .ensures) (word-put _ (x .trees) _ _ _ (c .be
 entry-of-requires : tie.Need-entry-of-requires
 entry-of-requires c κs = search needs
 
-put-words-requires : tie.Need-put-words-requires
-put-words-requires c κs = let h = c .before .before .before .before .before .before .before .before .before .pre in rw (c .before .before .before .before .entry-of .ensures) (let t = entry-holds _ [] _ (h .0) (c .before .before .before .before .before .if2 .left) (c .before .before .before .before .before .before .if1 .left) .two in (t .0, t .1, t .2, t .3, h .1))
+put-both-requires : tie.Need-put-both-requires
+put-both-requires c κs = let h = c .before .before .before .before .before .before .before .before .before .pre in rw (c .before .before .before .before .entry-of .ensures) (let t = entry-holds _ [] _ (h .0) (c .before .before .before .before .before .if2 .left) (c .before .before .before .before .before .before .if1 .left) .two in (t .0, t .1, t .2, t .3, h .1))
 
 same-length-3 : tie.Need-same-length-3
 same-length-3 c = search needs
@@ -45,7 +45,7 @@ returns-3 : tie.Need-returns-3
 returns-3 c =
     let start = c .before .before .before .before .before .before .before .before .before .before .before .before in
     let h = start .pre in
-    λ x. leaf-put (start .args .ds .now) (c .before .before .before .before .before .before .before .entry-of .result) (c .before .before .before .before .before .before .before .entry-of .ensures) (entry-holds _ (x .trees) _ (h .0) (c .before .before .before .before .before .before .before .before .if2 .left) (c .before .before .before .before .before .before .before .before .before .if1 .left)) (h .1) (c .before .before .put-words .ensures)
+    λ x. leaf-put (start .args .ds .now) (c .before .before .before .before .before .before .before .entry-of .result) (c .before .before .before .before .before .before .before .entry-of .ensures) (entry-holds _ (x .trees) _ (h .0) (c .before .before .before .before .before .before .before .before .if2 .left) (c .before .before .before .before .before .before .before .before .before .if1 .left)) (h .1) (c .before .before .put-both .ensures)
 
 pub conclude-leaf-spec : {M : Type 1} → statement M
 conclude-leaf-spec =
@@ -61,6 +61,6 @@ conclude-leaf-spec =
     same-length-2
     returns-2
     entry-of-requires
-    put-words-requires
+    put-both-requires
     same-length-3
     returns-3)

@@ -1,4 +1,5 @@
 -- The declarations are good, so that the entry lies inside them.
+use Prim.Native.Nat.{_+_, _*_}
 use native.Mathlib.Omega.{arith}
 use Rattle.typing.specs.Code.Verdicts.{variableEntry}
 use Rattle.typing.proofs.Putting.{variable-entry}
@@ -12,39 +13,48 @@ mul-at c = omega (arith, variable-entry _ _ (c .before .pre))
 add-at : tie.Need-add-at
 add-at c = omega (arith, variable-entry _ _ (c .before .pre))
 
-add-word-at : tie.Need-add-word-at
-add-word-at c = omega (arith, variable-entry _ _ (c .before .pre))
+add-n : tie.Need-add-n
+add-n c = omega (arith, variable-entry _ _ (c .before .pre))
 
-word-at-requires : tie.Need-word-at-requires
-word-at-requires c κs = search needs
+mul-n : tie.Need-mul-n
+mul-n c = omega (arith, variable-entry _ _ (c .before .pre))
+
+shared-slice-read-n : tie.Need-shared-slice-read-n
+shared-slice-read-n c = omega (arith, variable-entry _ _ (c .before .before .pre))
 
 cast-n : tie.Need-cast-n
-cast-n c = search needs
+cast-n c = omega (arith, c .shared-slice-known2 .given (2051 + c .before .before .args .a * 129 + 1))
 
-add-word-at-2 : tie.Need-add-word-at-2
-add-word-at-2 c = omega (arith, variable-entry _ _ (c .before .before .pre))
+add-m : tie.Need-add-m
+add-m c = omega (arith, variable-entry _ _ (c .before .before .pre))
 
-word-at-requires-2 : tie.Need-word-at-requires-2
-word-at-requires-2 c κs = search needs
+mul-m : tie.Need-mul-m
+mul-m c = omega (arith, variable-entry _ _ (c .before .before .pre))
+
+shared-slice-read-m : tie.Need-shared-slice-read-m
+shared-slice-read-m c = omega (arith, variable-entry _ _ (c .before .before .before .pre))
 
 cast-m : tie.Need-cast-m
-cast-m c = search needs
+cast-m c = omega (arith, c .shared-slice-known3 .given (2051 + c .before .before .before .args .a * 129 + 2))
 
-word-at-requires-3 : tie.Need-word-at-requires-3
-word-at-requires-3 c κs = search needs
+mul-sorted-by : tie.Need-mul-sorted-by
+mul-sorted-by c = omega (arith, variable-entry _ _ (c .before .before .before .pre))
+
+shared-slice-read-sorted-by : tie.Need-shared-slice-read-sorted-by
+shared-slice-read-sorted-by c = omega (arith, variable-entry _ _ (c .before .before .before .before .pre))
 
 sorted-by-requires : tie.Need-sorted-by-requires
 sorted-by-requires c κs = search needs
 
-add-t6 : tie.Need-add-t6
-add-t6 c = omega (arith, variable-entry _ _ (c .before .before .before .before .before .pre))
+add-t7 : tie.Need-add-t7
+add-t7 c = omega (arith, variable-entry _ _ (c .before .before .before .before .before .pre))
 
-add-t10 : tie.Need-add-t10
-add-t10 c = omega (arith, variable-entry _ _ (c .before .before .before .before .before .pre))
+add-t14 : tie.Need-add-t14
+add-t14 c = omega (arith, variable-entry _ _ (c .before .before .before .before .before .pre))
 
 returns : tie.Need-returns
 unfolding variableEntry
-returns c = rw (c .sorted-by .ensures, c .before .before .before .word-at .ensures, c .before .before .word-at2 .ensures, c .before .word-at3 .ensures)
+returns c = rw (c .sorted-by .ensures)
 
 pub variable-entry-spec : {M : Type 1} → statement M
 variable-entry-spec =
@@ -52,14 +62,17 @@ variable-entry-spec =
     (tie.spec
     mul-at
     add-at
-    add-word-at
-    word-at-requires
+    add-n
+    mul-n
+    shared-slice-read-n
     cast-n
-    add-word-at-2
-    word-at-requires-2
+    add-m
+    mul-m
+    shared-slice-read-m
     cast-m
-    word-at-requires-3
+    mul-sorted-by
+    shared-slice-read-sorted-by
     sorted-by-requires
-    add-t6
-    add-t10
+    add-t7
+    add-t14
     returns)

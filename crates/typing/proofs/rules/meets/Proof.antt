@@ -1,6 +1,5 @@
 -- The test by its digit.
 use mathlib.Core.Path.{sym, _∙_}
-use Prim.Native.Nat.{_/_}
 use native.Mathlib.Omega.{arith}
 use borrow.Author.Needs.{needs}
 use borrow.Author.Tests.{ne-eqb}
@@ -9,12 +8,9 @@ use Rattle.typing.proofs.Concluding.{placed, met-run}
 use Rattle.typing.proofs.rules.meets.Statement.{statement}
 use Rattle.typing.proofs.rules.meets.Tie as tie
 
-rule-of-requires : tie.Need-rule-of-requires
-rule-of-requires c κs = search needs
-
 returns : tie.Need-returns
 unfolding met
-returns c = rw (← c .before .rule-of .ensures, c .if1 .taken)
+returns c = rw (c .if1 .taken)
 
 piece-requires : tie.Need-piece-requires
 piece-requires c κs = search needs
@@ -24,19 +20,18 @@ piece-requires-2 c κs = search needs
 
 same-runs-requires : tie.Need-same-runs-requires
 same-runs-requires c κs =
-    let e = c .before .before .before .before in
-    let h = e .before .before .pre in
-    (rw (c .before .piece .ensures) (placed h (e .rule-of .result / 4096) .inside), rw (c .piece2 .ensures) (placed h 3 .inside))
+    let start = c .before .before .before .before .before in
+    (rw (c .before .piece .ensures) (placed (start .pre) (start .args .test) .inside), rw (c .piece2 .ensures) (placed (start .pre) 3 .inside))
 
 returns-2 : tie.Need-returns-2
 returns-2 c =
-    let e = c .before .before .before .before .before in
-    let t = e .rule-of .result / 4096 in
-    rw (← e .rule-of .ensures) (rw (c .before .before .piece .ensures, c .before .piece2 .ensures, placed (e .before .before .pre) t .is) at (c .same-runs .ensures) ∙ sym (met-run t _ _ _ (c .before .before .before .before .if1 .left) (c .before .before .before .if2 .taken)))
+    let start = c .before .before .before .before .before .before in
+    let t = start .args .test in
+    rw (c .before .before .piece .ensures, c .before .piece2 .ensures, placed (start .pre) t .is) at (c .same-runs .ensures) ∙ sym (met-run t _ _ _ (c .before .before .before .before .if1 .left) (c .before .before .before .if2 .taken))
 
 returns-3 : tie.Need-returns-3
 unfolding met
-returns-3 c = rw (← c .before .before .before .rule-of .ensures, c .if3 .taken)
+returns-3 c = rw (c .if3 .taken)
 
 number-requires : tie.Need-number-requires
 number-requires c κs = search needs
@@ -46,20 +41,18 @@ number-requires-2 c κs = search needs
 
 returns-4 : tie.Need-returns-4
 unfolding met
-returns-4 c = rw (← c .before .before .before .before .before .before .before .before .rule-of .ensures, c .before .before .before .before .if4 .taken, c .before .number .ensures, c .number2 .ensures)
+returns-4 c = rw (c .before .before .before .before .if4 .taken, c .before .number .ensures, c .number2 .ensures)
 
 returns-5 : tie.Need-returns-5
 unfolding met
 returns-5 c =
-    let e = c .before .before .before .before in
-    let t = e .rule-of .result / 4096 in
-    rw (← e .rule-of .ensures, ne-eqb t 1 (λ z. omega arith), ne-eqb t 2 (λ z. omega arith), ne-eqb t 3 (c .before .if3 .left), ne-eqb t 5 (c .if4 .left))
+    let t = c .before .before .before .before .before .args .test in
+    rw (ne-eqb t 1 (λ z. omega arith), ne-eqb t 2 (λ z. omega arith), ne-eqb t 3 (c .before .if3 .left), ne-eqb t 5 (c .if4 .left))
 
 pub meets-spec : {M : Type 1} → statement M
 meets-spec =
     tie.close
     (tie.spec
-    rule-of-requires
     returns
     piece-requires
     piece-requires-2

@@ -6,9 +6,6 @@ use borrow.Author.Needs.{needs}
 use Rattle.typing.proofs.rules.plan.Statement.{statement}
 use Rattle.typing.proofs.rules.plan.Tie as tie
 
-rule-of-requires : tie.Need-rule-of-requires
-rule-of-requires c κs = search needs
-
 piece-requires : tie.Need-piece-requires
 piece-requires c κs = search needs
 
@@ -16,10 +13,14 @@ piece-requires-2 : tie.Need-piece-requires-2
 piece-requires-2 c κs = search needs
 
 side-size-requires : tie.Need-side-size-requires
-side-size-requires c κs = let a = c .before .before .before .before .before .args in (rw (c .before .piece .ensures) (place-few (a .top) (a .g) (c .before .before .before .before .before .pre .2) (c .before .before .before .before .before .pre .3) (c .before .before .before .before .rule-of .result / 16 % 16)), omega arith)
+side-size-requires c κs =
+    let start = c .before .before .before .before in
+    (rw (c .before .piece .ensures) (place-few (start .args .top) (start .args .g) (start .pre .1 .2) (start .pre .1 .3) (start .args .rule / 16 % 16)), omega arith)
 
 side-size-requires-2 : tie.Need-side-size-requires-2
-side-size-requires-2 c κs = let a = c .before .before .before .before .before .before .args in (rw (c .before .piece2 .ensures) (place-few (a .top) (a .g) (c .before .before .before .before .before .before .pre .2) (c .before .before .before .before .before .before .pre .3) (c .before .before .before .before .before .rule-of .result % 16)), omega arith)
+side-size-requires-2 c κs =
+    let start = c .before .before .before .before .before in
+    (rw (c .before .piece2 .ensures) (place-few (start .args .top) (start .args .g) (start .pre .1 .2) (start .pre .1 .3) (start .args .rule % 16)), omega arith)
 
 are-fit-requires : tie.Need-are-fit-requires
 are-fit-requires c κs = search needs
@@ -31,13 +32,14 @@ class-by-requires : tie.Need-class-by-requires
 class-by-requires c κs = search needs
 
 returns : tie.Need-returns
-returns c = plan-is _ _ _ _ _ (c .before .before .before .before .before .before .before .before .before .rule-of .ensures) (c .before .before .before .before .before .before .piece .ensures) (c .before .before .before .before .before .piece2 .ensures) (c .before .before .before .before .side-size .ensures) (c .before .before .before .side-size2 .ensures) (c .before .before .are-fit .ensures) (c .before .all-well .ensures) (c .class-by .ensures)
+returns c =
+    let at = c .before .before .before in
+    plan-is _ _ _ _ _ (at .before .before .before .before .before .before .pre .0) (at .before .before .before .piece .ensures) (at .before .before .piece2 .ensures) (at .before .side-size .ensures) (at .side-size2 .ensures) (c .before .before .are-fit .ensures) (c .before .all-well .ensures) (c .class-by .ensures)
 
 pub plan-spec : {M : Type 1} → statement M
 plan-spec =
     tie.close
     (tie.spec
-    rule-of-requires
     piece-requires
     piece-requires-2
     side-size-requires

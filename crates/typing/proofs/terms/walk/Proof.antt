@@ -1,12 +1,14 @@
 -- The words that were found are those that stand at the bottom, of one stack or the other.
 use native.Mathlib.Omega.{arith}
 use borrow.Author.Needs.{needs}
+use Rattle.typing.specs.Code.Chains.{budgetOf, aroundOf}
 use Rattle.typing.proofs.Binding.{held-none}
 use Rattle.typing.proofs.Deciding.{found-top, found-room, found-front, found-moved}
 use Rattle.typing.proofs.terms.walk.Statement.{statement}
 use Rattle.typing.proofs.terms.walk.Tie as tie
 
 type-part-requires : tie.Need-type-part-requires
+unfolding budgetOf aroundOf
 type-part-requires c κs = (search needs, search needs, search needs, search needs, held-none _ _)
 
 same-length : tie.Need-same-length
@@ -19,6 +21,7 @@ slice-aggregate-type-part : tie.Need-slice-aggregate-type-part
 slice-aggregate-type-part c = search needs
 
 type-part-requires-2 : tie.Need-type-part-requires-2
+unfolding budgetOf aroundOf
 type-part-requires-2 c κs = (search needs, search needs, search needs, search needs, held-none _ _)
 
 array-share-prefix-larger : tie.Need-array-share-prefix-larger
@@ -40,6 +43,7 @@ slice-aggregate-type-part-2 : tie.Need-slice-aggregate-type-part-2
 slice-aggregate-type-part-2 c = search needs
 
 type-part-requires-3 : tie.Need-type-part-requires-3
+unfolding budgetOf aroundOf
 type-part-requires-3 c κs = (search needs, search needs, search needs, search needs, held-none _ _)
 
 array-share-prefix-larger-2 : tie.Need-array-share-prefix-larger-2

@@ -8,9 +8,8 @@ use lib.ListN.{getD}
 use Rattle.term.specs.Heads.{Label, Head, unknown, named, fixed, counted, heads, unread, labelled, reading, read, headOf}
 use Rattle.term.specs.Terms.{maxBodies}
 use Rattle.term.proofs.Readings.{Every, every-at, _⨾_}
 use Rattle.types.specs.Inside.{binds}
 use Rattle.types.specs.Strays.{isStray}
-use Rattle.typing.specs.Code.Strays.{strayWord}
 
 abbrev Law : Label → ℕ → ℕ → Type 0
 Law l k a = (n : ℕ) → (binds l ≡ eqb k 27) × (isStray l n ≡ cond (eqb k 28) (leb n a) (eqb k 27 && leb maxBodies n))
@@ -71,6 +70,5 @@ word-law w l m e = row-law (w / 256) (getD heads (w / 256) unknown) (rw zero-add
 pub binds-word : (w : ℕ) (l : Label) (m : ℕ) → read w ≡ labelled l m → binds l ≡ eqb (w / 256) 27
 binds-word w l m e = word-law w l m e 0 .0
 
-pub stray-word : (w : ℕ) (l : Label) (m n : ℕ) → read w ≡ labelled l m → isStray l n ≡ strayWord w n
-unfolding strayWord
+pub stray-word : (w : ℕ) (l : Label) (m n : ℕ) → read w ≡ labelled l m → isStray l n ≡ cond (eqb (w / 256) 28) (leb n (w % 256)) (eqb (w / 256) 27 && leb maxBodies n)
 stray-word w l m n e = word-law w l m e n .1
