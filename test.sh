@@ -1,6 +1,6 @@
 #!/usr/bin/env bash
 # All tests, from nothing: the checker's, every proof, every edit that must be refused, every program against its stored output, then the
-# proved typing, the proved step, the proved run and the proved replay against the checker's on random cases; the examples; the library from C
+# proved typing, the proved step and its preview, the proved run and the proved replay against the checker's on random cases; the examples; the library from C
 # and from Rust, and on random files beside the checker in one process.
 set -euo pipefail
 cd "$(dirname "$0")"
@@ -25,13 +25,13 @@ rt fmt --check
 (cd checker && cargo test --release --offline) > "$logs/checker" 2>&1 &
 tests=$!
 # rt starts so many proofs at a time and waits for all of them; with one for each of two cores a core waits for the longer.
-RT_JOBS=${RT_JOBS:-3} rt ci 2>&1 | tee "$logs/ci"
+RT_JOBS=${RT_JOBS:-6} rt ci 2>&1 | tee "$logs/ci"
 finish "$tests" "$logs/checker"
 
 rt staticlib library > "$logs/library" 2>&1 &
 library=$!
 comparisons=
-for kind in typing step run replay; do
+for kind in typing step preview run replay; do
     checker/compare.sh "$kind" 1 10000 > "$logs/$kind" 2>&1 &
     comparisons="$comparisons $!:$logs/$kind"
 done

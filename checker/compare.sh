@@ -1,8 +1,8 @@
 #!/usr/bin/env bash
 # The proved program of cases against the checker on random ones: checker/compare.sh KIND [SEED [COUNT]], from the root of the repository.
-# KIND is replay, typing, step or run.
+# KIND is replay, typing, step, run or preview.
 set -euo pipefail
-kind=${1:?KIND is replay, typing, step or run}
+kind=${1:?KIND is replay, typing, step, run or preview}
 seed=${2:-1}
 count=${3:-10000}
 program=target/bin/cases

@@ -29,7 +29,7 @@ extern "C" {
 #define FEJOGBU_FILE 65536         /* the most bytes of a file */
 #define FEJOGBU_ANSWER 6           /* numbers of a replay's or a run's answer */
 #define FEJOGBU_STEP_ANSWER 5      /* numbers of a single step's answer */
-#define FEJOGBU_TYPING_ANSWER 9    /* numbers of a typing's answer */
+#define FEJOGBU_TYPING_ANSWER 9    /* numbers of a typing's answer, and of a preview's */
 
 /* ---- what is returned where numbers are handed out: whether the slices for them were of their size */
 #define FEJOGBU_ANSWERED 0  /* the answer's numbers are written */
@@ -81,6 +81,12 @@ uint64_t fejogbu_run(const uint16_t *declarations, size_t declarations_size, uin
  * from 20 on and for a good step), at, and the length of the term that is left. */
 uint64_t fejogbu_step(const uint16_t *declarations, size_t declarations_size, uint16_t *term, size_t term_size, size_t n, uint16_t rule, uint16_t place,
                       uint16_t i, uint16_t j, uint64_t *answer, size_t answer_size);
+
+/* Shows one step before it is taken: the term is not written. The answer's first five numbers are those of `fejogbu_step`, then come the depth, the type's kind and the lengths of its
+ * indices, as `fejogbu_typing` has them, of what the step would leave: each is what taking the step on a copy, and typing the copy, answers. On 20 to 23 that is the term as it stands; on 1,
+ * 7, 8, 13, 10 and 11 length and depth are 0 and the type is a scalar. */
+uint64_t fejogbu_preview(const uint16_t *declarations, size_t declarations_size, const uint16_t *term, size_t term_size, size_t n, uint16_t rule, uint16_t place,
+                         uint16_t i, uint16_t j, uint64_t *answer, size_t answer_size, uint16_t *rows, size_t rows_size, uint16_t *columns, size_t columns_size);
 
 /* Finds the type of the term in the first `n` words of `term`, which is not written. The answer is code (0, 1, 7, 8, 13, 10, 11), side (0), step (0), at, the term's length and depth, the
  * type's kind, and the lengths of the indices of its rows and of its columns. The words of these go into `rows` and `columns`, with zeros behind; a ket has rows alone, a bra columns

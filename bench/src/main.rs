@@ -3,6 +3,7 @@
 
 mod files;
 mod plot;
+mod previews;
 mod scan;
 mod terms;
 
@@ -56,6 +57,19 @@ fn typing() {
     println!();
 }
 
+/// Steps shown first, beside the same steps taken on a copy, and all rules tried at a place.
+fn previews() {
+    println!("| step | words | code | preview (µs) | step on a copy (µs) | ratio | all rules there (µs) |\n|---|---|---|---|---|---|---|");
+    for (name, mut shown) in previews::table() {
+        let code = shown.preview();
+        assert_eq!(code, shown.taken(), "{name}: the preview answers as the step does");
+        let (ours, theirs) = times(&mut shown, |shown| shown.preview(), |shown| shown.taken());
+        let (all, _) = times(&mut shown, |shown| shown.rules(), |_| 0);
+        println!("| {name} | {} | {code} | {ours:.2} | {theirs:.2} | {:.2} | {all:.0} |", shown.length(), ours / theirs);
+    }
+    println!();
+}
+
 /// The files, and the times of each by its name.
 fn replays(pair: &mut Pair) -> HashMap<&'static str, (f64, f64)> {
     let mut taken = HashMap::new();
@@ -85,6 +99,7 @@ fn scans(taken: &HashMap<&str, (f64, f64)>) {
 
 fn main() {
     typing();
+    previews();
     let mut pair = Pair::default();
     let taken = replays(&mut pair);
     scans(&taken);

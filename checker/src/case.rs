@@ -1,12 +1,13 @@
 //! Stored cases: what goes in, what comes out, and the run over a folder.
 //!
-//! A folder has up to four sub-folders, `replay`, `typing`, `step` and `run`;
-//! each case is `NAME.in` with `NAME.out` beside it.
+//! A folder has up to five sub-folders, `replay`, `typing`, `step`, `run` and
+//! `preview`; each case is `NAME.in` with `NAME.out` beside it.
 
 use crate::lent::{Case, Rooms, RunCase};
+use crate::preview::preview;
 use crate::replay::replay;
 use crate::step::single;
-use crate::typing::{typing, Kind};
+use crate::typing::{typing, Kind, Type};
 use crate::words::{tokens, used, WORDS};
 use std::path::{Path, PathBuf};
 use std::{fs, io};
@@ -17,10 +18,11 @@ pub enum Sort {
     Typing,
     Step,
     Run,
+    Preview,
 }
 
 impl Sort {
-    pub const ALL: [Sort; 4] = [Sort::Replay, Sort::Typing, Sort::Step, Sort::Run];
+    pub const ALL: [Sort; 5] = [Sort::Replay, Sort::Typing, Sort::Step, Sort::Run, Sort::Preview];
 
     pub fn folder(self) -> &'static str {
         match self {
@@ -28,6 +30,7 @@ impl Sort {
             Sort::Typing => "typing",
             Sort::Step => "step",
             Sort::Run => "run",
+            Sort::Preview => "preview",
         }
     }
 
@@ -39,6 +42,7 @@ impl Sort {
             Sort::Typing => typing_text(input),
             Sort::Step => step_text(input),
             Sort::Run => run_text(input, rooms),
+            Sort::Preview => preview_text(input),
         }
     }
 }
@@ -51,26 +55,34 @@ fn replay_text(input: &[u8]) -> String {
 fn typing_text(input: &[u8]) -> Result<String, String> {
     let case = Case::read(input)?;
     let answer = typing(&case.declared, &case.slice(), case.lent.length);
-    let kind = match answer.found.kind {
+    let term = term_text(answer.length, answer.depth, &answer.found);
+    Ok(format!("code={}\nat={}\n{term}", answer.code, answer.at))
+}
+
+fn preview_text(input: &[u8]) -> Result<String, String> {
+    let (case, step) = Case::read_with_step(input)?;
+    let answer = preview(&case.declared, &case.slice(), case.lent.length, step);
+    let term = term_text(answer.length, answer.depth, &answer.found);
+    Ok(format!("code={}\nstep={}\nat={}\n{term}", answer.code, answer.step, answer.at))
+}
+
+/// The lines of a term's length, depth and type.
+fn term_text(length: usize, depth: usize, found: &Type) -> String {
+    let kind = match found.kind {
         Kind::Scalar => "scalar",
         Kind::Ket(_) => "ket",
         Kind::Bra(_) => "bra",
         Kind::Operator(..) => "operator",
     };
-    Ok(format!(
-        "code={}\nat={}\nlength={}\ndepth={}\nkind={kind}\nfirst={}\nsecond={}\n",
-        answer.code,
-        answer.at,
-        answer.length,
-        answer.depth,
-        tokens(answer.found.first()),
-        tokens(answer.found.second()),
-    ))
+    format!(
+        "length={length}\ndepth={depth}\nkind={kind}\nfirst={}\nsecond={}\n",
+        tokens(found.first()),
+        tokens(found.second()),
+    )
 }
 
 fn step_text(input: &[u8]) -> Result<String, String> {
-    let case = Case::read(input)?;
-    let step = case.step.ok_or("a step line is wanted")?;
+    let (case, step) = Case::read_with_step(input)?;
     let mut slice = case.slice();
     let answer = single(&case.declared, &mut slice, case.lent.length, step);
     Ok(format!(

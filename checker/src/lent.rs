@@ -54,7 +54,7 @@ impl Lent {
     }
 }
 
-/// A typing or step case: declarations, a slice, perhaps a step.
+/// A typing, step or preview case: declarations, a slice, perhaps a step.
 #[derive(Clone, PartialEq, Eq, Debug)]
 pub struct Case {
     pub declared: Declarations,
@@ -81,6 +81,13 @@ impl Case {
         let mut case = Case::new(Declarations::default(), Vec::new());
         each_line(input, |key, value| case.line(key, value))?;
         Ok(case)
+    }
+
+    /// A case that has a step, and the step.
+    pub fn read_with_step(input: &[u8]) -> Result<(Case, Step), String> {
+        let case = Case::read(input)?;
+        let step = case.step.ok_or("a step line is wanted")?;
+        Ok((case, step))
     }
 
     fn line(&mut self, key: &[u8], value: &[u8]) -> Option<()> {

@@ -13,6 +13,7 @@ pub mod lent;
 pub mod matrix;
 pub mod notation;
 pub mod numbers;
+pub mod preview;
 pub mod replay;
 pub mod rules;
 pub mod run;

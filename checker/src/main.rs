@@ -15,11 +15,12 @@ checker replay < FILE               the answer to a file
 checker typing < FILE               the answer to a typing case
 checker step < FILE                 the answer to a step case
 checker run < FILE                  the answer to a run case
+checker preview < FILE              the answer to a preview case
 checker vectors DIR                 runs the cases under a folder
 checker gen SEED COUNT KIND DIR     writes cases; KIND is accepted, damaged, replay (files of
-                                    all sorts), typing, step or run
+                                    all sorts), typing, step, run or preview
 checker numbers KIND DIR IN OUT     writes a folder's cases and stored answers as numbers;
-                                    KIND is replay, typing, step or run
+                                    KIND is replay, typing, step, run or preview
 ";
 
 fn main() -> ExitCode {
@@ -30,6 +31,7 @@ fn main() -> ExitCode {
         ["typing"] => answer(Sort::Typing),
         ["step"] => answer(Sort::Step),
         ["run"] => answer(Sort::Run),
+        ["preview"] => answer(Sort::Preview),
         ["vectors", folder] => vectors(Path::new(folder)),
         ["gen", seed, count, kind, folder] => generate(seed, count, kind, Path::new(folder)),
         ["numbers", kind, folder, input, output] => {
@@ -80,6 +82,7 @@ fn generate(seed: &str, count: &str, kind: &str, folder: &Path) -> Result<(), St
         "typing" => Sort::Typing,
         "step" => Sort::Step,
         "run" => Sort::Run,
+        "preview" => Sort::Preview,
         _ => return Err(USAGE.to_string()),
     };
     let folder = folder.join(sort.folder());
@@ -95,7 +98,7 @@ fn generate(seed: &str, count: &str, kind: &str, folder: &Path) -> Result<(), St
             }
             "replay" => gen.replay_case(),
             "typing" => gen.typing_case(),
-            "step" => gen.step_case(),
+            "step" | "preview" => gen.step_case(),
             _ => gen.run_case(),
         };
         let path = folder.join(format!("{kind}-{seed}-{number:06}.in"));
@@ -112,6 +115,7 @@ fn numbered(kind: &str, folder: &Path, input: &str, output: &str) -> Result<(), 
         "typing" => numbers::typing(folder)?,
         "step" => numbers::step(folder)?,
         "run" => numbers::run(folder)?,
+        "preview" => numbers::preview(folder)?,
         _ => return Err(USAGE.to_string()),
     };
     fs::write(input, cases).map_err(told)?;

@@ -7,17 +7,17 @@
 //! lengths and words of two indices. What a slice begins with is the length that
 //! is told, the number of words and the words.
 //!
-//! A typing case has these of its slice. A step case has them, the number of
-//! words of the whole slice, the word behind the first ones, the rule, the
-//! place, i and j. A run case has for the left and then the right what the slice
-//! begins with and how many words it has; then the count of steps that is told,
-//! the number of the steps' words, and these. A file is no line of numbers: it
-//! is its length, a line feed, and its bytes as they are.
+//! A typing case has these of its slice. A step or preview case has them, the
+//! number of words of the whole slice, the word behind the first ones, the rule,
+//! the place, i and j. A run case has for the left and then the right what the
+//! slice begins with and how many words it has; then the count of steps that is
+//! told, the number of the steps' words, and these. A file is no line of numbers:
+//! it is its length, a line feed, and its bytes as they are.
 //!
-//! An answer begins with code, side, step, at. Typing adds length, depth, kind,
-//! and the lengths and words of the index of the rows and that of the columns;
-//! a step the length and the slice, a run and a replay both lengths and both
-//! slices: the number of words up to the last that is not zero, and these.
+//! An answer begins with code, side, step, at. Typing and a preview add length,
+//! depth, kind, and the lengths and words of the index of the rows and that of
+//! the columns; a step the length and the slice, a run and a replay both lengths
+//! and both slices: the number of words up to the last that is not zero, and these.
 //! Answers are made of the stored `.out` alone: this checker neither types a
 //! case nor takes its steps. Only the words that a replay leaves in its slices
 //! are the checker's own, since the `.out` of a file does not tell them.
@@ -57,6 +57,11 @@ pub fn step(folder: &Path) -> Result<Numbered, String> {
 /// The run cases of a folder by name, and their stored answers.
 pub fn run(folder: &Path) -> Result<Numbered, String> {
     lines(folder, Sort::Run, run_case, run_answer)
+}
+
+/// The preview cases of a folder by name, and their stored answers.
+pub fn preview(folder: &Path) -> Result<Numbered, String> {
+    lines(folder, Sort::Preview, step_case, preview_answer)
 }
 
 /// Cases that are a line each, and answers that are made of the stored ones.
@@ -101,6 +106,7 @@ fn number_of(sort: Sort) -> usize {
         Sort::Step => 3,
         Sort::Run => 4,
         Sort::Replay => 5,
+        Sort::Preview => 6,
     }
 }
 
@@ -141,8 +147,7 @@ fn typing_case(input: &[u8]) -> Result<Vec<usize>, String> {
 }
 
 fn step_case(input: &[u8]) -> Result<Vec<usize>, String> {
-    let case = Case::read(input)?;
-    let step = case.step.ok_or("a step line is wanted")?;
+    let (case, step) = Case::read_with_step(input)?;
     let mut out = declared(&case.declared);
     push_lent(&mut out, &case.lent);
     out.extend([case.lent.size, case.behind.into()]);
@@ -196,28 +201,23 @@ fn indices(variable: &Variable) -> (&[u16], &[u16]) {
     }
 }
 
-/// A bra's index is that of its columns.
 fn typing_answer(mut stored: Stored) -> Option<Vec<usize>> {
     let code = stored.number("code")?;
     let at = stored.number("at")?;
-    let length = stored.number("length")?;
-    let depth = stored.number("depth")?;
-    let name = stored.value("kind")?;
-    let kind = ["scalar", "ket", "bra", "operator"].iter().position(|&kind| kind == name)?;
-    let (first, second) = (stored.words("first")?, stored.words("second")?);
-    let (rows, columns) = if name == "bra" { (second, first) } else { (first, second) };
-    let mut out = vec![code, 0, 0, at, length, depth, kind];
-    push(&mut out, &rows);
-    push(&mut out, &columns);
+    let mut out = vec![code, 0, 0, at];
+    out.extend(stored.term()?);
+    Some(out)
+}
+
+fn preview_answer(mut stored: Stored) -> Option<Vec<usize>> {
+    let mut out = stored.step_fields()?;
+    out.extend(stored.term()?);
     Some(out)
 }
 
 fn step_answer(mut stored: Stored) -> Option<Vec<usize>> {
-    let code = stored.number("code")?;
-    let step = stored.number("step")?;
-    let at = stored.number("at")?;
-    let length = stored.number("length")?;
-    let mut out = vec![code, 0, step, at, length];
+    let mut out = stored.step_fields()?;
+    out.push(stored.number("length")?);
     push(&mut out, &stored.words("words")?);
     Some(out)
 }
@@ -250,6 +250,28 @@ impl<'s> Stored<'s> {
 
     fn number(&mut self, key: &str) -> Option<usize> {
         number(self.value(key)?.as_bytes())
+    }
+
+    /// What a step's and a preview's answer begin with; they name no side.
+    fn step_fields(&mut self) -> Option<Vec<usize>> {
+        let code = self.number("code")?;
+        let step = self.number("step")?;
+        let at = self.number("at")?;
+        Some(vec![code, 0, step, at])
+    }
+
+    /// A term's length, depth and type. A bra's index is that of its columns.
+    fn term(&mut self) -> Option<Vec<usize>> {
+        let length = self.number("length")?;
+        let depth = self.number("depth")?;
+        let name = self.value("kind")?;
+        let kind = ["scalar", "ket", "bra", "operator"].iter().position(|&kind| kind == name)?;
+        let (first, second) = (self.words("first")?, self.words("second")?);
+        let (rows, columns) = if name == "bra" { (second, first) } else { (first, second) };
+        let mut out = vec![length, depth, kind];
+        push(&mut out, &rows);
+        push(&mut out, &columns);
+        Some(out)
     }
 
     /// The six numbers of a run or a replay.

@@ -1,12 +1,18 @@
-//! What the step cases are on which `compare.sh` holds the proved step to this
-//! checker: they take every rule and narrowly miss it, and meet every code and
-//! every limit.
+//! What the step cases are on which `compare.sh` holds the proved step and the
+//! proved preview to this checker: they take every rule and narrowly miss it, and
+//! meet every code and every limit. The preview of every one of them against the
+//! step.
 
 use checker::gen::Gen;
 use checker::lent::Case;
+use checker::preview::{preview, Preview};
 use checker::rules::{by_number, Out, Rule, Spot, Way, RULES};
 use checker::step::{single, Step, Stepped};
-use checker::words::{head, low, part, parts, word, ADD, ADDS, DELTA, DEPTH, MULS, SCR, WORDS};
+use checker::typing::{typing, Kind, Type};
+use checker::words::{
+    children_of, head, low, part, parts, word, ADD, ADDS, DELTA, DEPTH, MULS, SCR, WORDS,
+};
+use std::cmp::Ordering;
 use std::collections::BTreeMap;
 use std::sync::OnceLock;
 
@@ -211,4 +217,58 @@ fn words_behind_the_term_are_met_with_every_code() {
     let codes = counted(taken().iter().filter(dirty).map(|it| it.answer.code));
     println!("by code: {codes:?}");
     assert_eq!(codes.len(), 11);
+}
+
+/// The depth of the part that words begin with, and what stands behind it.
+fn depth(words: &[u16]) -> (usize, &[u16]) {
+    let (&first, mut rest) = words.split_first().expect("a word");
+    let mut deepest = 0;
+    for _ in 0..children_of(first).expect("a known head") {
+        let (child, behind) = depth(rest);
+        deepest = deepest.max(child);
+        rest = behind;
+    }
+    (deepest + 1, rest)
+}
+
+fn letter(kind: Kind) -> char {
+    match kind {
+        Kind::Scalar => 'S',
+        Kind::Ket(_) => 'K',
+        Kind::Bra(_) => 'B',
+        Kind::Operator(..) => 'O',
+    }
+}
+
+/// The answer is that of the single step, the depth that of the words it left,
+/// by a walk of its own, and the type that before the step, which keeps it.
+#[test]
+fn a_preview_is_the_step_on_a_copy() {
+    let (mut depths, mut kinds) = (Vec::new(), Vec::new());
+    for (k, it) in taken().iter().enumerate() {
+        let (slice, told) = (it.case.slice(), it.case.lent.length);
+        let before = typing(&it.case.declared, &slice, told);
+        let seen = preview(&it.case.declared, &slice, told, it.step);
+        let Preview { code, step, at, length, .. } = seen;
+        assert_eq!(Stepped { code, step, at, length }, it.answer, "case {k}");
+        if (1..20).contains(&code) {
+            assert_eq!((length, seen.depth, seen.found), (0, 0, Type::SCALAR), "case {k}");
+            continue;
+        }
+        assert_eq!((seen.depth, &[][..]), depth(&it.left), "case {k}");
+        assert_eq!(seen.found, before.found, "case {k}");
+        depths.push((code, seen.depth.cmp(&before.depth)));
+        kinds.push((code, letter(seen.found.kind)));
+    }
+    let (depths, kinds) = (counted(depths.into_iter()), counted(kinds.into_iter()));
+    println!("by code and depth: {depths:?}; by code and kind: {kinds:?}");
+    for way in [Ordering::Less, Ordering::Equal, Ordering::Greater] {
+        assert!(depths.get(&(0, way)) >= Some(&50), "good steps, depth {way:?}");
+    }
+    for code in [0, 20, 21, 22, 23] {
+        for kind in ['S', 'K', 'B', 'O'] {
+            assert!(kinds.contains_key(&(code, kind)), "code {code} and kind {kind}");
+        }
+    }
+    assert!(depths.keys().all(|&(code, way)| code == 0 || way == Ordering::Equal));
 }

@@ -35,7 +35,9 @@ fn every_code_has_a_case() {
     let codes = [0, 2, 3, 4, 5, 6, 7, 8, 9, 10, 11, 12, 13, 20, 21, 22, 23, 30];
     assert_eq!(stored_codes(case::Sort::Replay), codes);
     assert_eq!(stored_codes(case::Sort::Typing), [0, 7, 8, 10, 11, 13]);
-    assert_eq!(stored_codes(case::Sort::Step), [0, 1, 7, 8, 10, 11, 13, 20, 21, 22, 23]);
+    let codes = [0, 1, 7, 8, 10, 11, 13, 20, 21, 22, 23];
+    assert_eq!(stored_codes(case::Sort::Step), codes);
+    assert_eq!(stored_codes(case::Sort::Preview), codes);
     let codes = [0, 1, 5, 6, 7, 8, 9, 10, 11, 12, 13, 20, 21, 22, 23, 30];
     assert_eq!(stored_codes(case::Sort::Run), codes);
 }
@@ -58,7 +60,8 @@ fn every_case_has_its_row() {
 fn numbered() -> (Vec<u8>, Vec<u8>) {
     let folder = Path::new(env!("CARGO_MANIFEST_DIR")).join("vectors");
     let (mut cases, mut answers) = (Vec::new(), Vec::new());
-    for of_sort in [numbers::typing, numbers::step, numbers::run, numbers::replay] {
+    let sorts = [numbers::typing, numbers::step, numbers::run, numbers::replay, numbers::preview];
+    for of_sort in sorts {
         let (more_cases, more_answers) = of_sort(&folder).expect("the cases as numbers");
         cases.extend(more_cases);
         answers.extend(more_answers.into_bytes());

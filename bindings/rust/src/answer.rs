@@ -232,6 +232,28 @@ impl fmt::Display for Stepped {
     }
 }
 
+/// A step shown before it is taken: what the single step would answer, and the depth and the type of what it would leave. On 20 to 23 that is the term as it stands; where typing refuses
+/// the term, `length` and `depth` are 0 and the type is a scalar.
+#[derive(Clone, Debug, PartialEq, Eq)]
+pub struct Preview {
+    pub stepped: Stepped,
+    pub depth: usize,
+    pub kind: Kind,
+}
+
+impl fmt::Display for Preview {
+    fn fmt(&self, f: &mut fmt::Formatter<'_>) -> fmt::Result {
+        match self.stepped.code {
+            Accepted => write!(
+                f,
+                "leaves a term of {} words, {} deep",
+                self.stepped.length, self.depth
+            ),
+            _ => self.stepped.fmt(f),
+        }
+    }
+}
+
 /// The kind of a type, with the words of its indices.
 #[derive(Clone, Debug, PartialEq, Eq)]
 pub enum Kind {

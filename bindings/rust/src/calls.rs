@@ -1,8 +1,8 @@
-//! The five functions of the library. Every slice that is handed over is of the length that is said, and those that are written are lent to nobody else meanwhile: that is all that the
+//! The six functions of the library, and the rules that fit at a place. Every slice that is handed over is of the length that is said, and those that are written are lent to nobody else meanwhile: that is all that the
 //! library asks of its caller.
 use crate::outside;
 use crate::{
-    Answer, Code, Declarations, Kind, Side, Step, Stepped, Steps, Term, Typing, Work, INDEX,
+    Answer, Code, Declarations, Kind, Preview, Side, Step, Stepped, Steps, Term, Typing, Work, INDEX,
 };
 
 fn written(returned: u64) {
@@ -78,8 +78,12 @@ pub fn step(declarations: &Declarations, term: &mut Term, step: Step) -> Stepped
             numbers.len(),
         )
     });
-    let [code, side, step, at, length] = numbers;
-    term.length = length as usize;
+    let answer = stepped(numbers);
+    term.length = answer.length;
+    answer
+}
+
+fn stepped([code, side, step, at, length]: [u64; 5]) -> Stepped {
     Stepped {
         code: Code::of(code),
         side: Side::of(side),
@@ -89,12 +93,63 @@ pub fn step(declarations: &Declarations, term: &mut Term, step: Step) -> Stepped
     }
 }
 
+/// Shows one step of a term before it is taken. The term is only read: every field is what taking the step on a copy answers, or what typing then finds of the copy.
+///
+/// ```
+/// use fejogbu::{preview, word, Declarations, Step, Term};
+/// let term = Term::of(&[word(9, 0), word(9, 0), word(5, 0)]);
+/// let shown = preview(&Declarations::of_types(0).unwrap(), &term, Step { rule: 10, place: 1, ..Step::default() });
+/// assert_eq!(shown.to_string(), "leaves a term of 2 words, 2 deep");
+/// ```
+pub fn preview(declarations: &Declarations, term: &Term, step: Step) -> Preview {
+    let ([code, side, taken, at, length, depth], kind) = typed(|numbers, rows, columns| unsafe {
+        outside::fejogbu_preview(
+            declarations.words().as_ptr(),
+            declarations.words().len(),
+            term.slice.as_ptr(),
+            term.slice.len(),
+            term.length,
+            step.rule,
+            step.place,
+            step.i,
+            step.j,
+            numbers.as_mut_ptr(),
+            numbers.len(),
+            rows.as_mut_ptr(),
+            rows.len(),
+            columns.as_mut_ptr(),
+            columns.len(),
+        )
+    });
+    Preview {
+        stepped: stepped([code, side, taken, at, length]),
+        depth: depth as usize,
+        kind,
+    }
+}
+
+/// The rules that fit at a place with these two indices, by their numbers, each with what it would leave: what an editor offers there. The rule of `at` does not matter. A rule that would
+/// pass the limits of a term does not fit; where typing refuses the term, none does.
+///
+/// ```
+/// use fejogbu::{fitting, word, Declarations, Step, Term};
+/// let term = Term::of(&[word(9, 0), word(9, 0), word(5, 0)]);
+/// let rules = fitting(&Declarations::of_types(0).unwrap(), &term, Step { place: 1, ..Step::default() });
+/// assert_eq!(rules.iter().map(|(rule, _)| *rule).collect::<Vec<_>>(), [10]);
+/// ```
+pub fn fitting(declarations: &Declarations, term: &Term, at: Step) -> Vec<(u16, Preview)> {
+    (0..RULES)
+        .map(|rule| (rule, preview(declarations, term, Step { rule, ..at })))
+        .filter(|(_, shown)| shown.stepped.code == Code::Accepted)
+        .collect()
+}
+
+/// Every rule's number is below this one.
+const RULES: u16 = 256;
+
 /// Finds the type of a term, which it leaves as it is.
 pub fn typing(declarations: &Declarations, term: &Term) -> Typing {
-    let mut numbers = [0; 9];
-    let mut rows = [0; INDEX];
-    let mut columns = [0; INDEX];
-    written(unsafe {
+    let ([code, side, step, at, length, depth], kind) = typed(|numbers, rows, columns| unsafe {
         outside::fejogbu_typing(
             declarations.words().as_ptr(),
             declarations.words().len(),
@@ -109,7 +164,6 @@ pub fn typing(declarations: &Declarations, term: &Term) -> Typing {
             columns.len(),
         )
     });
-    let [code, side, step, at, length, depth, kind, n, m] = numbers;
     Typing {
         code: Code::of(code),
         side: Side::of(side),
@@ -117,8 +171,19 @@ pub fn typing(declarations: &Declarations, term: &Term) -> Typing {
         at: at as usize,
         length: length as usize,
         depth: depth as usize,
-        kind: kind_of(kind, &rows[..n as usize], &columns[..m as usize]),
+        kind,
     }
+}
+
+/// The first six numbers of an answer that has a type, and the type, from slices of their sizes.
+fn typed(call: impl FnOnce(&mut [u64; 9], &mut [u16], &mut [u16]) -> u64) -> ([u64; 6], Kind) {
+    let mut numbers = [0; 9];
+    let mut rows = [0; INDEX];
+    let mut columns = [0; INDEX];
+    written(call(&mut numbers, &mut rows, &mut columns));
+    let [code, side, step, at, length, depth, kind, n, m] = numbers;
+    let kind = kind_of(kind, &rows[..n as usize], &columns[..m as usize]);
+    ([code, side, step, at, length, depth], kind)
 }
 
 /// A part of some words and its depth: a leaf is 1 deep.

@@ -1,7 +1,7 @@
 //! The proved replay of derivations in Dirac notation, for Rust.
 //!
 //! A derivation is two terms and a list of steps that should bring both to the same end. [`replay`] takes a file's bytes; [`run`] takes declarations, two terms and steps that the
-//! program has made itself; [`step`] takes one step of one term; [`typing`] finds a term's type; [`part`] looks a part up. Each answer names what is wrong and whose doing it is, and none relies on the
+//! program has made itself; [`step`] takes one step of one term, [`preview`] shows it first, and [`fitting`] asks which rules fit at a place; [`typing`] finds a term's type; [`part`] looks a part up. Each answer names what is wrong and whose doing it is, and none relies on the
 //! caller having looked first. The functions behind them are proved; what this crate adds are slices of the right sizes, and words for the codes.
 //!
 //! ```
@@ -15,8 +15,8 @@ mod calls;
 mod lent;
 mod outside;
 
-pub use answer::{Answer, Code, Kind, Outcome, Side, Stepped, Typing};
-pub use calls::{part, replay, run, step, typing, Part};
+pub use answer::{Answer, Code, Kind, Outcome, Preview, Side, Stepped, Typing};
+pub use calls::{fitting, part, preview, replay, run, step, typing, Part};
 pub use lent::{word, Declarations, Refused, Step, Steps, Term, Variable, Work};
 
 /// The words of a work slice, and the most words of a term.

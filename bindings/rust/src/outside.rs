@@ -38,6 +38,23 @@ extern "C" {
         answer: *mut u64,
         answer_size: usize,
     ) -> u64;
+    pub fn fejogbu_preview(
+        declarations: *const u16,
+        declarations_size: usize,
+        term: *const u16,
+        term_size: usize,
+        n: usize,
+        rule: u16,
+        place: u16,
+        i: u16,
+        j: u16,
+        answer: *mut u64,
+        answer_size: usize,
+        rows: *mut u16,
+        rows_size: usize,
+        columns: *mut u16,
+        columns_size: usize,
+    ) -> u64;
     pub fn fejogbu_typing(
         declarations: *const u16,
         declarations_size: usize,
@@ -128,6 +145,47 @@ mod tests {
         assert_eq!(replay(&mut left, &mut right, &mut answer), 0);
         assert_eq!(answer, [1, 0, 0, 0, 0, 0]);
         assert_eq!((left, right), ([7; 4095], [8; 4096]));
+    }
+
+    /// A preview in slices of these sizes: what is returned, and the nine numbers.
+    fn preview(term: &[u16], rows: &mut [u16]) -> (u64, [u64; 9]) {
+        let declared = [0u16; 6179];
+        let mut answer = [9; 9];
+        let mut columns = [9; 63];
+        let returned = unsafe {
+            fejogbu_preview(
+                declared.as_ptr(),
+                declared.len(),
+                term.as_ptr(),
+                term.len(),
+                2,
+                61,
+                0,
+                0,
+                0,
+                answer.as_mut_ptr(),
+                answer.len(),
+                rows.as_mut_ptr(),
+                rows.len(),
+                columns.as_mut_ptr(),
+                columns.len(),
+            )
+        };
+        (returned, answer)
+    }
+
+    /// A preview of a slice of another size is code 1; slices for its answer of another size are refused, and nothing is touched.
+    #[test]
+    fn a_preview_in_slices_of_other_sizes() {
+        for size in [0, 2, 4095, 4097] {
+            let mut rows = [9; 63];
+            let (returned, answer) = preview(&vec![2304; size], &mut rows);
+            assert_eq!((returned, answer), (0, [1, 0, 0, 0, 0, 0, 0, 0, 0]));
+            assert_eq!(rows, [0; 63]);
+        }
+        let mut rows = [9; 62];
+        assert_eq!(preview(&[2304; 4096], &mut rows), (1, [9; 9]));
+        assert_eq!(rows, [9; 62]);
     }
 
     /// What is not put is told by the number of the code: 1 the calling program's doing, 6 one too many, 7 a bad declaration.

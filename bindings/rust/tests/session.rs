@@ -1,7 +1,7 @@
 //! The scope's derivation and its damaged copies, through each function.
 use fejogbu::{
-    part, replay, run, step, typing, word, Answer, Code, Declarations, Kind, Outcome, Refused, Side,
-    Step, Steps, Term, Variable, Work,
+    fitting, part, preview, replay, run, step, typing, word, Answer, Code, Declarations, Kind,
+    Outcome, Refused, Side, Step, Steps, Term, Variable, Work,
 };
 
 const SESSION: &str = "types=1\nbasis=1:0\nvar=O 1:0 1:0\nleft=22 18 15 1:0 16 3:0\nright=16 3:0\nstep=L 71 1 0 0\nstep=L 102 0 0 0\nend=2\n";
@@ -232,6 +232,37 @@ fn single_steps() {
         (answer.code, answer.step, answer.length),
         (Code::NoTerm, 0, 0)
     );
+}
+
+/// Every rule at every place, good or not: the preview is what the step on a copy answers, and what typing finds of the copy.
+#[test]
+fn previews_are_the_steps_on_a_copy() {
+    let declared = declarations();
+    for term in [Term::of(&LEFT), Term::of(&RIGHT), Term::of(&[BASIS]), sum(255)] {
+        for (rule, place) in (0..256).flat_map(|rule| (0..7).map(move |place| (rule, place))) {
+            let shown = preview(&declared, &term, by(rule, place));
+            let mut copy = term.clone();
+            assert_eq!(shown.stepped, step(&declared, &mut copy, by(rule, place)));
+            let found = typing(&declared, &copy);
+            assert_eq!((shown.depth, shown.kind), (found.depth, found.kind));
+        }
+    }
+}
+
+#[test]
+fn the_rules_that_fit() {
+    let at = |place| Step { place, ..Step::default() };
+    let rules = |words: &[u16], at| -> Vec<(u16, String)> {
+        let found = fitting(&declarations(), &Term::of(words), at).into_iter();
+        found.map(|(rule, shown)| (rule, shown.to_string())).collect()
+    };
+    let first = (71, "leaves a term of 5 words, 3 deep".to_string());
+    let last = (102, "leaves a term of 2 words, 2 deep".to_string());
+    assert_eq!(rules(&LEFT, at(1)), [first]);
+    assert_eq!(rules(&BETWEEN, at(0)), [last]);
+    assert_eq!(rules(&LEFT, at(0)), []);
+    assert_eq!(rules(&LEFT, at(6)), []);
+    assert_eq!(rules(&[BASIS], at(0)), []);
 }
 
 /// A sum of so many scalars, of which the first is a sum of two.

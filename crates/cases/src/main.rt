@@ -28,6 +28,7 @@ fn answer(kind: Number, left_room: &mut [u16; ROOM], right_room: &mut [u16; ROOM
         3 => step_cases::answer(),
         4 => run_cases::answer(left_room, right_room),
         5 => replay_cases::answer(left_room, right_room),
+        6 => step_cases::answer_preview(),
         _ => skip_line(kind.behind),
     }
 }

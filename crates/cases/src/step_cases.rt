@@ -11,7 +11,9 @@ use crate::output::also;
 use crate::output::also_slice;
 use crate::output::end_line;
 use crate::output::first;
+use crate::typing_cases;
 use lent::steps::Step;
+use step::preview::preview_step;
 use step::single::Answer;
 use step::single::take_step;
 
@@ -34,14 +36,28 @@ fn write(answer: Answer, ws: &[u16]) {
 }
 
 // The slice is lent at the size that the case says, since a caller may lend one of any size.
+fn next_slice(room: &mut [u16]) -> &mut [u16] {
+    let given = next_words(room).len();
+    let ws = front_mut(room, next_number());
+    let size = ws.len();
+    fill(ws, given, size, narrow(next_number()));
+    ws
+}
+
 pub fn answer() {
     let ds = next_declarations();
     let length = next_number();
     let mut room = [0u16; 5000];
-    let given = next_words(&mut room).len();
-    let ws = front_mut(&mut room, next_number());
-    let size = ws.len();
-    fill(ws, given, size, narrow(next_number()));
+    let ws = next_slice(&mut room);
     let answer = take_step(&ds, ws, length, next_step());
     write(answer, ws);
+}
+
+// The same cases, for the preview of the step; its answer is written as typing's is.
+pub fn answer_preview() {
+    let ds = next_declarations();
+    let length = next_number();
+    let mut room = [0u16; 5000];
+    let ws = next_slice(&mut room);
+    typing_cases::write(preview_step(&ds, ws, length, next_step()));
 }

@@ -44,7 +44,7 @@ fn type_of(kind: Kind, rows: &[u16; 63], columns: &[u16; 63]) {
     }
 }
 
-fn write(t: Typing) {
+pub fn write(t: Typing) {
     first(t.code);
     also(t.side);
     also(t.step);

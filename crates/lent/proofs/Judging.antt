@@ -47,24 +47,15 @@ data Side (ds ws : List ℕ) (n : ℕ) : ℕ → ℕ → Type 0 where
   of-term : length ws ≡ maxWords → goodDeclarations ds ≡ true → ((t : Tree) → HeldTerm ds ws n t → ⊥) → Side ds ws n 8 0
   late : {t : Tree} {c k : ℕ} → HeldTerm ds ws n t → Late ds ws n t c k → Side ds ws n c k
 
--- a type is accepted, at 0
-pub type-code : (n d : ℕ) (S : Sort) → IsType S → answerOf n d (T.typed S) .code ≡ 0
+-- a type is accepted, with the length and the depth
+pub type-told : (n d : ℕ) (S : Sort) → IsType S → let a = answerOf n d (T.typed S) in (a .code ≡ 0) × (a .at ≡ 0) × (a .length ≡ n) × (a .depth ≡ d)
 unfolding answerOf typing
-type-code n d (index σ) h = absurd h
-type-code n d (basis σ) h = absurd h
-type-code n d scalar h = refl
-type-code n d (ket σ) h = refl
-type-code n d (bra σ) h = refl
-type-code n d (operator σ τ) h = refl
-
-type-at : (n d : ℕ) (S : Sort) → IsType S → answerOf n d (T.typed S) .at ≡ 0
-unfolding answerOf typing
-type-at n d (index σ) h = absurd h
-type-at n d (basis σ) h = absurd h
-type-at n d scalar h = refl
-type-at n d (ket σ) h = refl
-type-at n d (bra σ) h = refl
-type-at n d (operator σ τ) h = refl
+type-told n d (index σ) h = absurd h
+type-told n d (basis σ) h = absurd h
+type-told n d scalar h = (refl, refl, refl, refl)
+type-told n d (ket σ) h = (refl, refl, refl, refl)
+type-told n d (bra σ) h = (refl, refl, refl, refl)
+type-told n d (operator σ τ) h = (refl, refl, refl, refl)
 
 pub held-of : {ds ws : List ℕ} {n : ℕ} {t : Tree} {S : Sort} → TypedTerm ds ws n t S → HeldTerm ds ws n t
 held-of h = record { size = h .size; good = h .good; inside = h .inside; is = h .is; term = h .term }
@@ -77,7 +68,7 @@ side-of (Said.no-term h g x) = of-term h g x
 side-of (Said.stray h f) = late h (stray f)
 side-of (Said.no-sort h s x f) = late h (unsorted s x f)
 side-of (Said.no-type h d x) = late h (untyped d x)
-side-of {n} (Said.a-type {t} {S} h) = rw (type-code n (depth t) S (h .isType), type-at n (depth t) S (h .isType)) (late (held-of h) (typed h))
+side-of {n} (Said.a-type {t} {S} h) = let told = type-told n (depth t) S (h .isType) in rw (told .0, told .1) (late (held-of h) (typed h))
 
 late-size : {ds ws : List ℕ} {n : ℕ} {t : Tree} {c k : ℕ} → Late ds ws n t c k → (c ≢ 1) × (c ≢ 7) × (c ≢ 8)
 late-size (stray f) = (λ e. omega arith, λ e. omega arith, λ e. omega arith)

@@ -1,4 +1,5 @@
 -- The library's answers as numbers in a lent slice, for a caller in another language.
+use mathlib.Core.Path.{_≡_}
 use mathlib.Core.Bool.{Bool, cond, _&&_}
 use mathlib.Core.List.{List, [], _∷_}
 use Prim.Native.Nat.{ℕ}
@@ -40,9 +41,16 @@ typingNumbers t =
     let z = sizesOf (t .of .kind) in
     t .code ∷ t .side ∷ t .step ∷ t .at ∷ t .length ∷ t .depth ∷ z .number ∷ z .rows ∷ z .columns ∷ []
 
--- the typing writes into three slices
+-- the typing and the preview write into three slices
 abbrev pub ofSizes : List ℕ → List ℕ → List ℕ → Bool
 ofSizes answer rows columns = ofSize 9 answer && (ofSize 63 rows && ofSize 63 columns)
+
+-- what is told so: what is returned, and the three slices then
+pub record Told (answer rows columns : List ℕ) (t : T.Typing) (r : ℕ) (answer′ rows′ columns′ : List ℕ) : Type 0 where
+  pub returned : r ≡ status (ofSizes answer rows columns)
+  pub numbers : answer′ ≡ handed (ofSizes answer rows columns) (typingNumbers t) answer
+  pub row-words : rows′ ≡ handed (ofSizes answer rows columns) (t .of .rows) rows
+  pub column-words : columns′ ≡ handed (ofSizes answer rows columns) (t .of .columns) columns
 
 -- What putting a name answers, by 01's numbers: 1 is the calling program's doing, "6 one basis, var or step line too many", "7 a declaration is not exactly the indices wanted,
 -- or breaks a limit or a name"

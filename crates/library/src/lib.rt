@@ -1,4 +1,4 @@
-// The library for others: the replay, the run, the single step, the typing, the lookup of a part and the constructors as functions of plain numbers and lent slices, which C and Rust can call. Nothing is
+// The library for others: the replay, the run, the single step, its preview, the typing, the lookup of a part and the constructors as functions of plain numbers and lent slices, which C and Rust can call. Nothing is
 // relied on. Where a function hands out an answer as numbers, a slice for it of another size is refused: the function returns 1 and touches nothing.
 use declarations::constructor::Put;
 use declarations::constructor::put_basis;
@@ -7,6 +7,7 @@ use declarations::constructor::start;
 use file::replay::replay;
 use lent::steps::Step;
 use lent::steps::put_step;
+use step::preview::preview_step;
 use step::run::Answer;
 use step::run::run_steps;
 use step::single::take_step;
@@ -26,9 +27,10 @@ ghost use Rattle.declarations.specs.Put as P;
 ghost use Rattle.typing.specs.Answers.{typingOf};
 ghost use Rattle.lent.specs.Lent.{isSide, hasRoom, stepPut};
 ghost use Rattle.step.specs.Answers.{answerTo, wordsLeft};
+ghost use Rattle.step.specs.Previews.{previewOf};
 ghost use Rattle.step.specs.Runs.{runAnswer, leftAfter, rightAfter};
 ghost use Rattle.file.specs.Replays.{replayAnswer, leftReplayed, rightReplayed};
-ghost use Rattle.library.specs.Numbers.{ofSize, ofSizes, status, handed, answerNumbers, stepNumbers, typingNumbers, putNumber, stepOf, moveOf};
+ghost use Rattle.library.specs.Numbers.{ofSize, status, handed, answerNumbers, stepNumbers, typingNumbers, Told, putNumber, stepOf, moveOf};
 
 // Copies numbers into a slice of their size.
 fn copy_numbers(to: &mut [u64], from: &[usize])
@@ -165,6 +167,18 @@ fn put_words(rows: &mut [u16], columns: &mut [u16], t: Typing)
     copy_words(columns, &column_words);
 }
 
+// Hands out nine numbers, and the words of the two indices of a type: what is told of a term, or of what a step leaves.
+fn hand_out(answer: &mut [u64], rows: &mut [u16], columns: &mut [u16], t: Typing) -> u64
+    ensures { λ r. ⌜ Told (now (answer .entry)) (now (rows .entry)) (now (columns .entry)) t r (now (answer .exit)) (now (rows .exit)) (now (columns .exit)) ⌝ }
+{
+    if !are_sizes(answer.len(), rows.len(), columns.len()) {
+        return 1;
+    }
+    put_numbers(answer, t);
+    put_words(rows, columns, t);
+    0
+}
+
 // The type of the term in the first `n` words of a work slice. The nine numbers are code, side, step, at, length, depth, the kind (0 scalar, 1 ket, 2 bra, 3 operator) and the lengths of
 // the indices of its rows and of its columns; their words go into the two slices, with zeros behind.
 #[no_mangle]
@@ -176,18 +190,34 @@ pub extern "C" fn fejogbu_typing(
     rows: &mut [u16],
     columns: &mut [u16],
 ) -> u64
-    ensures returned { λ r. ⌜ r ≡ status (ofSizes (now (answer .entry)) (now (rows .entry)) (now (columns .entry))) ⌝ }
-    ensures answered { λ _. ⌜ now (answer .exit) ≡ handed (ofSizes (now (answer .entry)) (now (rows .entry)) (now (columns .entry))) (typingNumbers (typingOf (now (ds .entry)) (now (term .entry)) n)) (now (answer .entry)) ⌝ }
-    ensures row_words { λ _. ⌜ now (rows .exit) ≡ handed (ofSizes (now (answer .entry)) (now (rows .entry)) (now (columns .entry))) ((typingOf (now (ds .entry)) (now (term .entry)) n) .of .rows) (now (rows .entry)) ⌝ }
-    ensures column_words { λ _. ⌜ now (columns .exit) ≡ handed (ofSizes (now (answer .entry)) (now (rows .entry)) (now (columns .entry))) ((typingOf (now (ds .entry)) (now (term .entry)) n) .of .columns) (now (columns .entry)) ⌝ }
+    ensures { λ r. ⌜ Told (now (answer .entry)) (now (rows .entry)) (now (columns .entry)) (typingOf (now (ds .entry)) (now (term .entry)) n) r (now (answer .exit)) (now (rows .exit)) (now (columns .exit)) ⌝ }
 {
-    if !are_sizes(answer.len(), rows.len(), columns.len()) {
-        return 1;
-    }
-    let t = type_term(ds, term, n);
-    put_numbers(answer, t);
-    put_words(rows, columns, t);
-    0
+    hand_out(answer, rows, columns, type_term(ds, term, n))
+}
+
+// Shows one step of the term in the first `n` words of a work slice, which is not written. The first five numbers are those of the step; the others and the words are what typing tells of
+// what it would leave.
+#[no_mangle]
+pub extern "C" fn fejogbu_preview(
+    ds: &[u16],
+    term: &[u16],
+    n: usize,
+    rule: u16,
+    place: u16,
+    i: u16,
+    j: u16,
+    answer: &mut [u64],
+    rows: &mut [u16],
+    columns: &mut [u16],
+) -> u64
+    ensures { λ r. ⌜ Told (now (answer .entry)) (now (rows .entry)) (now (columns .entry)) (previewOf (now (ds .entry)) (now (term .entry)) n (stepOf rule place i j)) r (now (answer .exit)) (now (rows .exit)) (now (columns .exit)) ⌝ }
+{
+    hand_out(
+        answer,
+        rows,
+        columns,
+        preview_step(ds, term, n, Step { rule, place, i, j }),
+    )
 }
 
 // The part that begins at the offset `at` of any words: how many words it has, and its depth; 0 and 0 where none begins there.

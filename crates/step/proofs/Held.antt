@@ -17,7 +17,7 @@ use Rattle.declarations.proofs.Entries.{counts-in}
 use Rattle.typing.specs.declared.terms.Typing as A
 use Rattle.typing.specs.Answers.{typingOf, TypedTerm}
 use Rattle.typing.proofs.Theorems.{complete-entry}
-use Rattle.lent.proofs.Judging.{type-code}
+use Rattle.lent.proofs.Judging.{type-told}
 use Rattle.rules.specs.Steps.{stepOf}
 use Rattle.lent.specs.declared.steps.Step.{Step}
 use Rattle.lent.specs.Lent.{asked}
@@ -25,7 +25,7 @@ use Rattle.step.specs.Answers.{held, stepIn}
 
 module _ {ds ws : List ℕ} {n : ℕ} {t : Tree} {S : Sort} (h : TypedTerm ds ws n t S) where
   pub accepted-code : typingOf ds ws n .code ≡ 0
-  accepted-code = ap (λ (a : A.Typing). a .code) (complete-entry ds ws n t S h) ∙ type-code n (depth t) S (h .isType)
+  accepted-code = ap (λ (a : A.Typing). a .code) (complete-entry ds ws n t S h) ∙ type-told n (depth t) S (h .isType) .0
 
   pub its-step : (s : Step) → stepIn ds ws n s ≡ stepOf (contextIn ds) t (asked s)
   unfolding stepIn treeIn

@@ -11,6 +11,7 @@ mod Putting
 mod Stepped
 pub mod Held
 mod Taking
+mod Previewed
 mod Moving
 mod Begun
 mod Courses

@@ -53,13 +53,13 @@ Tells ds ws n s code length′ ws′ size =
     (code ≡ after .code) × (length′ ≡ length (words (after .tree))) × (ws′ ≡ held (after .tree)) × (size ≡ maxWords)
 
 module _ (ds ws : List ℕ) (n : ℕ) (accepted : typingOf ds ws n .code ≡ 0) where
-  abbrev tree : Tree
+  abbrev pub tree : Tree
   tree = sound-entry ds ws n accepted .0
 
-  abbrev sort : Sort
+  abbrev pub sort : Sort
   sort = sound-entry ds ws n accepted .1
 
-  is-typed : TypedTerm ds ws n tree sort
+  pub is-typed : TypedTerm ds ws n tree sort
   is-typed = sound-entry ds ws n accepted .2
 
   pub slice-size : length ws ≡ maxWords
@@ -86,10 +86,10 @@ module _ (ds ws : List ℕ) (n : ℕ) (accepted : typingOf ds ws n .code ≡ 0) 
     outcome : Outcome (contextIn ds) tree (asked s) (after .code) (after .tree)
     outcome = rw (its-step is-typed s) (step-decided (contextIn ds) (well-formed ds (is-typed .good)) sort tree (its-type is-typed) (asked s))
 
-    stays : after .code ≢ 0 → after .tree ≡ tree
+    pub stays : after .code ≢ 0 → after .tree ≡ tree
     stays = stays-by outcome
 
-    refused-length : after .code ≢ 0 → n ≡ length (words (after .tree))
+    pub refused-length : after .code ≢ 0 → n ≡ length (words (after .tree))
     refused-length h = sym (ap (λ (t : Tree). length (words t)) (stays h) ∙ tree-length)
 
     refused-slice : after .code ≢ 0 → cleared ws n ≡ held (after .tree)
@@ -103,12 +103,12 @@ module _ (ds ws : List ℕ) (n : ℕ) (accepted : typingOf ds ws n .code ≡ 0) 
       pub room-out : r .end ≤ length out
       room-out = omega (arith, m .fits h, m .size)
 
-      all-words : words (after .tree) ≡ take (s .place) ws ++ take (r .end) out
+      pub all-words : words (after .tree) ≡ take (s .place) ws ++ take (r .end) out
       all-words =
           let i = inside-by outcome (sym (m .code) ∙ h) in
           m .words-are h ∙ rw (is-typed .is, take-take (s .place) n ws (omega (arith, i, tree-length)))
 
-      new-length : s .place + r .end ≡ length (words (after .tree))
+      pub new-length : s .place + r .end ≡ length (words (after .tree))
       new-length =
           sym
           (ap length all-words ∙ length-append (take (s .place) ws) (take (r .end) out)

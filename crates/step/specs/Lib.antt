@@ -2,6 +2,7 @@
 pub mod Alike
 pub mod Answers
 pub mod Calls
+pub mod Previews
 pub mod Runs
 pub mod Derivations
 pub mod Statements

@@ -14,6 +14,7 @@ use Rattle.lent.specs.Refusals.{Begun}
 use Rattle.step.specs.Alike.{Alike}
 use Rattle.step.specs.Calls as C
 use Rattle.step.specs.Calls.{Done, Refused, Work}
+use Rattle.step.specs.Previews.{previewOf, Agrees}
 use Rattle.step.specs.Runs.{runFrom, andThen, runAnswer, leftAfter, rightAfter}
 use Rattle.step.specs.Derivations.{Accepted, Decision, Kept}
 
@@ -31,6 +32,11 @@ Refusals = (ds ws : List ℕ) (n : ℕ) → typingOf ds ws n .code ≢ 0 → (s 
 abbrev pub Lists : Type 1
 Lists =
     (ds : List ℕ) (w : Work) (t : Tree) (S : Sort) → TypedTerm ds (w .slice) (w .length) t S → (ss : List Step) → (u : Tree) × C.Kept ds w t S ss u
+
+-- ---- the preview
+-- 02, CR 3, for all inputs: "refused steps included", and untyped terms
+abbrev pub Previews : Type 0
+Previews = (ds ws : List ℕ) (n : ℕ) (s : Step) → Agrees ds ws n s (previewOf ds ws n s)
 
 -- ---- the run
 -- Demand 2: accepted "exactly when"

@@ -1,5 +1,6 @@
 mod building;
 mod equations;
+pub mod preview;
 mod rewriting;
 pub mod run;
 mod running;

@@ -84,7 +84,7 @@ fn finish(
 }
 
 // Tests 20 to 23 in their order, and the words of the result from the place on.
-fn make(ds: &[u16], term: &[u16], s: Step, out: &mut [u16]) -> Rewritten
+pub fn make(ds: &[u16], term: &[u16], s: Step, out: &mut [u16]) -> Rewritten
     requires { ⌜ Termed (now ds) (now term) × (length (now out) ≡ 4096) ⌝ }
     ensures { λ r. ⌜ ((x : Termed (now (ds .entry)) (now (term .entry))) → Made (x .tree) (stepOf (contextIn (now (ds .entry))) (x .tree) (asked s)) (s .place) (now (out .exit)) r) ⌝ }
 {
