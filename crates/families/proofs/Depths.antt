@@ -1,6 +1,6 @@
--- Removing, absorbing, merging and exchanging leave a part no deeper.
+-- Removing, absorbing, merging and exchanging leave a part no deeper, and exchanging leaves it as deep.
 use mathlib.Core.Path.{_≡_, refl, sym, _∙_}
-use mathlib.Core.Bool.{Bool, true, false, cond, _&&_, _||_}
+use mathlib.Core.Bool.{Bool, true, false, cond, _&&_}
 use mathlib.Core.Option.{Option, some, none as refused}
 use Prim.Native.Nat.{ℕ, suc, _≤_}
 use native.Mathlib.Omega.{arith}
@@ -11,11 +11,12 @@ use Rattle.term.proofs.Extents.{depth*-⧺}
 use Rattle.types.specs.Sorts.{Context}
 use Rattle.rules.specs.Table.{Rule, _⇒_▷_, spreading, removing, absorbing, merging, collecting, swapping, distributing, ruleOf}
 use Rattle.rules.specs.Rewrite.{isHead, isChain, isLoose, Opened, outside, opened, removeAt, absorbAt, mergeAt, swapAt, rewrite}
+use Rattle.rules.specs.Instances.{Instance, swaps}
 use Rattle.rules.proofs.Opening.{At, too-far, there, at}
 use Rattle.rules.proofs.Matching.{no-answer, cond-some}
 use Rattle.rulebook.specs.declared.Row.{Row}
 use Rattle.rulebook.specs.Code.Rows.{rowFor, rowOf}
-use Rattle.families.specs.Writing.{mayDeepen}
+use Rattle.families.specs.Writing.{mayDeepen, keepsDepth}
 use Rattle.families.proofs.Lines.{lined}
 use Rattle.families.specs.Code.Families.{deepensIn, Lined, an-equation, a-spreading, a-removing, an-absorbing, a-merging, a-collecting, a-swapping, a-distributing}
 
@@ -74,25 +75,58 @@ no-deeper (collecting x y) h Γ i j t u e = true-false h
 no-deeper swapping h Γ i j (node m f) u e = at-child (eqb j 0 && isLoose m (count f)) (swapAt m) refl (swapped m) (at f i) e
 no-deeper distributing h Γ i j t u e = true-false h
 
+-- an exchange leaves it as deep as it was
+pub same-depth : (rule : Rule) → keepsDepth (some rule) ≡ true → {Γ : Context} {i j : ℕ} {t u : Tree} → Instance Γ rule i j t u → depth u ≡ depth t
+unfolding keepsDepth depth
+same-depth swapping h (swaps b a t u l) = omega (arith, depth*-⧺ b (t ▹ u ▹ a), depth*-⧺ b (u ▹ t ▹ a))
+same-depth (k ⇒ l ▷ r) h x = true-false (sym h)
+same-depth (spreading l w s r) h x = true-false (sym h)
+same-depth (removing l c) h x = true-false (sym h)
+same-depth absorbing h x = true-false (sym h)
+same-depth merging h x = true-false (sym h)
+same-depth (collecting u v) h x = true-false (sym h)
+same-depth distributing h x = true-false (sym h)
+
 -- ---- by the family of a row
-deepens-by : {row : Row} {rule : Rule} → Lined row rule → deepensIn (row .family) ≡ mayDeepen (some rule)
+deepens-by : (row : Row) (rule : Rule) → Lined row rule → deepensIn (row .family) ≡ mayDeepen (some rule)
 unfolding mayDeepen deepensIn
-deepens-by (an-equation x) = rw x
-deepens-by (a-spreading x p q r s v) = rw x
-deepens-by (a-removing x p q) = rw x
-deepens-by (an-absorbing x) = rw x
-deepens-by (a-merging x) = rw x
-deepens-by (a-collecting x p q) = rw x
-deepens-by (a-swapping x) = rw x
-deepens-by (a-distributing x) = rw x
+deepens-by row _ (an-equation x) = rw x
+deepens-by row _ (a-spreading x p q r s v) = rw x
+deepens-by row _ (a-removing x p q) = rw x
+deepens-by row _ (an-absorbing x) = rw x
+deepens-by row _ (a-merging x) = rw x
+deepens-by row _ (a-collecting x p q) = rw x
+deepens-by row _ (a-swapping x) = rw x
+deepens-by row _ (a-distributing x) = rw x
 
-none-by : (n : ℕ) → ruleOf n ≡ refused → deepensIn (rowOf n .family) ≡ mayDeepen (ruleOf n)
-unfolding mayDeepen deepensIn rowOf rowFor
-none-by n e = rw e
+keeps-by : (row : Row) (rule : Rule) → Lined row rule → eqb (row .family) 7 ≡ keepsDepth (some rule)
+unfolding keepsDepth
+keeps-by row _ (an-equation x) = rw x
+keeps-by row _ (a-spreading x p q r s v) = rw x
+keeps-by row _ (a-removing x p q) = rw x
+keeps-by row _ (an-absorbing x) = rw x
+keeps-by row _ (a-merging x) = rw x
+keeps-by row _ (a-collecting x p q) = rw x
+keeps-by row _ (a-swapping x) = rw x
+keeps-by row _ (a-distributing x) = rw x
 
-deepens-of : (n : ℕ) (o : Option Rule) → ruleOf n ≡ o → deepensIn (rowOf n .family) ≡ mayDeepen (ruleOf n)
-deepens-of n refused e = none-by n e
-deepens-of n (some rule) e = rw e (deepens-by (lined n rule (rowOf n) e refl))
+-- what is read off the family of a row is what is said of its rule
+module _ (of-family : ℕ → Bool) (of-rule : Option Rule → Bool) (none-is : of-family 0 ≡ of-rule refused) (some-is : (row : Row) (rule : Rule) → Lined row rule → of-family (row .family) ≡ of-rule (some rule)) where
+  no-rule : (n : ℕ) → ruleOf n ≡ refused → of-family (rowOf n .family) ≡ of-rule (ruleOf n)
+  unfolding rowOf rowFor
+  no-rule n e = rw e none-is
+
+  by-rule : (n : ℕ) (o : Option Rule) → ruleOf n ≡ o → of-family (rowOf n .family) ≡ of-rule (ruleOf n)
+  by-rule n refused e = no-rule n e
+  by-rule n (some rule) e = rw e (some-is (rowOf n) rule (lined n rule (rowOf n) e refl))
+
+  by-row : (n : ℕ) (row : Row) → row ≡ rowOf n → of-family (row .family) ≡ of-rule (ruleOf n)
+  by-row n row e = rw e (by-rule n (ruleOf n) refl)
 
 pub row-deepens : (n : ℕ) (row : Row) → row ≡ rowOf n → deepensIn (row .family) ≡ mayDeepen (ruleOf n)
-row-deepens n row e = rw e (deepens-of n (ruleOf n) refl)
+unfolding mayDeepen deepensIn
+row-deepens = by-row deepensIn mayDeepen refl deepens-by
+
+pub row-keeps : (n : ℕ) (row : Row) → row ≡ rowOf n → eqb (row .family) 7 ≡ keepsDepth (ruleOf n)
+unfolding keepsDepth
+row-keeps = by-row (λ (f : ℕ). eqb f 7) keepsDepth refl keeps-by

@@ -53,6 +53,18 @@ mayDeepen (some (collecting u v)) = true
 mayDeepen (some swapping) = false
 mayDeepen (some distributing) = true
 
+-- and whether it leaves the part as deep as it was: one that exchanges does
+unfoldable pub keepsDepth : Option Rule → Bool
+keepsDepth none = false
+keepsDepth (some (k ⇒ l ▷ r)) = false
+keepsDepth (some (spreading l w s r)) = false
+keepsDepth (some (removing l c)) = false
+keepsDepth (some absorbing) = false
+keepsDepth (some merging) = false
+keepsDepth (some (collecting u v)) = false
+keepsDepth (some swapping) = true
+keepsDepth (some distributing) = false
+
 -- what is told of the part, as a lookup hands it back: how many words it has and, where the rule of the number may leave it deeper, how deep it is
 pub record Measures (n : ℕ) (ws : List ℕ) (r : Replaced) : Type 0 where
   pub size : r .size ≡ length (part ws 0)

@@ -24,10 +24,10 @@ ghost use mathlib.Core.Bool.{cond};
 ghost use lib.ListN.{length};
 ghost use Rattle.term.specs.Parts.{Whole, part, partDepth};
 ghost use Rattle.types.specs.Sorts.{Context};
-ghost use Rattle.rules.specs.Table.{Rule};
+ghost use Rattle.rules.specs.Table.{Rule, ruleOf};
 ghost use Rattle.rulebook.specs.Code.Rows.{rowOf};
 ghost use Rattle.families.specs.Code.Families.{Does, Distributes, Lined, deepensIn};
-ghost use Rattle.families.specs.Writing.{Writes, Measures, written, familyOf};
+ghost use Rattle.families.specs.Writing.{Writes, Measures, written, familyOf, keepsDepth};
 
 // Spreading over the child that the row names, and then `i` is to be 0, or over child `i`.
 fn spread_by(ws: &[u16], row: Row, i: usize, out: &mut [u16]) -> Rewritten
@@ -163,4 +163,12 @@ pub fn rewrite_family(ws: &[u16], rule: usize, i: usize, j: usize, out: &mut [u1
         deepens,
         depth: part.depth,
     }
+}
+
+// Whether the rule of a number leaves a part as deep as it was: one that exchanges does.
+pub fn keeps_depth(rule: usize) -> bool
+    ensures { λ r. ⌜ r ≡ keepsDepth (ruleOf rule) ⌝ }
+{
+    let row = row_of(rule);
+    row.family == 7
 }

@@ -5,7 +5,6 @@ use crate::writing::refused;
 use term::parts::part_end;
 use words::append_run;
 use words::append_word;
-ghost use mathlib.Core.Path.{_≡_};
 ghost use mathlib.Core.List.{_++_};
 ghost use Prim.Native.Nat.{_-_, _≤_, _<_};
 ghost use lib.ListN.{length, take, drop};

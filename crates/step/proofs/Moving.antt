@@ -1,5 +1,5 @@
 -- Steps one after the other on two sides: what holds of both before a step holds of them behind it.
-use mathlib.Core.Path.{_≡_, refl, sym, _∙_, ap}
+use mathlib.Core.Path.{_≡_, refl, sym, _∙_}
 use mathlib.Core.Logic.{_≢_}
 use mathlib.Core.Bool.{Bool, true, false}
 use mathlib.Core.List.{List, _++_}
@@ -8,7 +8,7 @@ use native.Mathlib.Numerals.{add-one}
 use native.Mathlib.Omega.{arith}
 use borrow.Author.Tests.{eq-eqb, ne-eqb, eqb-false}
 use lib.Dec.{eqb}
-use lib.ListN.{length, drop, replicate, getD, length-append, length-replicate, drop-of-length-le}
+use lib.ListN.{length, replicate, getD, length-append, length-replicate, drop-of-length-le}
 use lib.Seq.{take-append-seam}
 use Rattle.words.specs.Words.{cleared}
 use Rattle.words.specs.Listed.{upTo}
@@ -23,8 +23,7 @@ use Rattle.typing.specs.Answers.{typingOf, TypedTerm}
 use Rattle.rules.specs.Steps.{Stepped, stepOf, Move, Sides, sideNumber, Run, runOf}
 use Rattle.rules.proofs.Steps.{step-decided, step-keeps-type}
 use Rattle.lent.specs.declared.steps.Step.{Step}
-use Rattle.step.specs.declared.run.Answer.{Answer}
-use Rattle.step.specs.Answers.{held, stepIn}
+use Rattle.step.specs.Answers.{held}
 use Rattle.lent.specs.Lent.{asked, stepAt, sideIn, lentStep, moveIn, movesIn}
 use Rattle.step.specs.Code.Running.{Holding, Ready, stepOn, movedBy, numbersOf}
 use Rattle.step.specs.Runs.{runFrom}

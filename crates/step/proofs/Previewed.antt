@@ -1,6 +1,7 @@
 -- The preview: what it answers is what taking the step on a copy answers, and what typing then tells of the copy.
 use mathlib.Core.Path.{_≡_, refl, sym, _∙_, ap}
 use mathlib.Core.Logic.{_≢_}
+use mathlib.Core.Bool.{true}
 use mathlib.Core.List.{List, [], _++_}
 use Prim.Native.Nat.{ℕ, _+_, _≤_, min}
 use native.Mathlib.Omega.{arith}
@@ -10,7 +11,8 @@ use Rattle.words.proofs.Runs.{appended, added-both}
 use Rattle.term.specs.Parts.{firstDepth, partDepth}
 use Rattle.term.specs.Trees.{Tree, words, depth, Formed}
 use Rattle.term.proofs.Parsing.{parse-tree, some-words}
-use Rattle.types.specs.Sorts.{Sort, index, basis, scalar, ket, bra, operator}
+use Rattle.term.proofs.Places.{depth-same}
+use Rattle.types.specs.Sorts.{Context, Sort, index, basis, scalar, ket, bra, operator}
 use Rattle.types.specs.Rules.{Typed}
 use Rattle.types.specs.TypeOf.{typed}
 use Rattle.declarations.specs.Declarations.{contextIn}
@@ -26,14 +28,18 @@ use Rattle.lent.specs.declared.steps.Step.{Step}
 use Rattle.families.specs.declared.writing.Rewritten.{Rewritten}
 use Rattle.lent.specs.Lent.{asked}
 use Rattle.rules.specs.Steps as R
+use Rattle.rules.specs.Table.{ruleOf}
+use Rattle.rules.specs.Outcomes.{Outcome, good, no-rule, no-place, no-instance, too-big}
+use Rattle.families.specs.Writing.{keepsDepth}
+use Rattle.families.proofs.Depths.{same-depth}
 use Rattle.rules.proofs.Steps.{step-keeps-type}
 use Rattle.step.specs.Answers.{stepIn, stepped, answerTo, wordsLeft}
 use Rattle.step.specs.Code.Making.{Made}
-use Rattle.step.specs.Previews.{typingAfter, previewOf, shown, Agrees}
+use Rattle.step.specs.Previews.{typingAfter, previewOf, shown}
 use Rattle.step.specs.Statements.{Previews}
 use Rattle.step.proofs.Held.{its-step, its-type, held-typed}
 use Rattle.step.proofs.Theorems.{entry, refusals}
-use Rattle.step.proofs.Taking.{tree, sort, is-typed, stays, refused-length, all-words, new-length}
+use Rattle.step.proofs.Taking.{tree, is-typed, outcome, stays, refused-length, all-words, new-length}
 
 -- ---- no words are no term
 abbrev Bare : Typing → Type 0
@@ -121,6 +127,14 @@ module _ {ds ws : List ℕ} {n : ℕ} {t : Tree} {S : Sort} (h : TypedTerm ds ws
         let e = entry ds ws n t S h s in
         rw (same-type, after-is, type-told (length (words (left .tree))) (depth (left .tree)) S (h .isType) .3, e .answer, c, l, d, o, its-step h s)
 
+-- ---- an exchange leaves the term as deep as it was
+kept-depth : {Γ : Context} {t u : Tree} {s : R.Step} {c : ℕ} → Outcome Γ t s c u → c ≡ 0 → keepsDepth (ruleOf (s .rule)) ≡ true → depth u ≡ depth t
+kept-depth {t} {s} (good u k) z q = rw (k .result) (depth-same t (s .place) (k .part) (k .new) (k .there) (same-depth (k .r) (rw (k .rule) at q) (k .is)))
+kept-depth (no-rule e) z q = absurd (omega arith)
+kept-depth (no-place e f) z q = absurd (omega arith)
+kept-depth (no-instance e f x) z q = absurd (omega arith)
+kept-depth (too-big e f x g) z q = absurd (omega arith)
+
 -- ---- and the words from its place on, made apart
 module _ (ds ws : List ℕ) (n : ℕ) (accepted : typingOf ds ws n .code ≡ 0) (s : Step) {T : Typing} (is : T ≡ typingOf ds ws n) {out : List ℕ} {r : Rewritten}
     (m : Made (tree ds ws n accepted) (stepIn ds ws n s) (s .place) out r) where
@@ -130,6 +144,12 @@ module _ (ds ws : List ℕ) (n : ℕ) (accepted : typingOf ds ws n .code ≡ 0) 
       let bad : stepIn ds ws n s .code ≢ 0 = λ c. z (m .code ∙ c) in
       let deep = ap (λ (a : Typing). a .depth) is ∙ typed-depth h ∙ ap depth (sym (stays ds ws n accepted s bad)) in
       e ∙ preview-of h s (m .code) (refused-length ds ws n accepted s bad) deep (ap (λ (a : Typing). a .of) is)
+
+  pub shows-kept : r .code ≡ 0 → keepsDepth (ruleOf (s .rule)) ≡ true → {p : Typing} → p ≡ shown 0 (s .place) (s .place + r .end) (T .depth) (T .of) → p ≡ previewOf ds ws n s
+  shows-kept z k e =
+      let h = is-typed ds ws n accepted in
+      let deep = ap (λ (a : Typing). a .depth) is ∙ typed-depth h ∙ sym (kept-depth (outcome ds ws n accepted s) (sym (m .code) ∙ z) k) in
+      e ∙ preview-of h s (sym z ∙ m .code) (new-length ds ws n accepted s out r m z) deep (ap (λ (a : Typing). a .of) is)
 
   pub shows-done : r .code ≡ 0 → {d : ℕ} → d ≡ partDepth (take (s .place) ws ++ take (r .end) out) 0 → {p : Typing} → p ≡ shown 0 (s .place) (s .place + r .end) d (T .of) → p ≡ previewOf ds ws n s
   shows-done z deep e =

@@ -5,7 +5,7 @@ use Prim.Native.Nat.{ℕ, _+_, _-_, _≤_}
 use native.Mathlib.Decide.{decLe}
 use native.Mathlib.Omega.{arith}
 use lib.ListN.{length, take, drop, replicate, length-append, length-take, length-replicate, take-append-drop, replicate-append-replicate}
-use lib.Seq.{take-at, drop-at, take-take, length-take-le, take-append-le}
+use lib.Seq.{drop-at, take-take, length-take-le, take-append-le}
 use Rattle.words.specs.Words.{cleared, laid}
 use Rattle.words.proofs.Runs.{laid-in, cleared-end, zeros-from}
 use Rattle.step.specs.Answers.{between}

@@ -1,8 +1,8 @@
 -- The run: the witnesses of its statements.
 use mathlib.Core.Path.{_≡_, refl, sym, _∙_, ap}
 use mathlib.Core.Logic.{_≢_}
-use mathlib.Core.Bool.{Bool, true, false, cond}
-use mathlib.Core.List.{List, [], _∷_, _++_, append-nil}
+use mathlib.Core.Bool.{Bool, true, false}
+use mathlib.Core.List.{List, _++_}
 use Prim.Native.Nat.{ℕ, _+_, _-_}
 use native.Mathlib.Nat.{zero-add}
 use native.Mathlib.Omega.{arith}
@@ -11,17 +11,17 @@ use lib.Dec.{eqb}
 use lib.ListN.{length, take, drop, replicate, length-drop}
 use lib.Seq.{drop-append-le}
 use Rattle.algebra.specs.Semirings.{Arithmetic, StarSemiring}
-use Rattle.words.specs.Words.{cleared, sameWords, agreeing}
+use Rattle.words.specs.Words.{cleared, sameWords}
 use Rattle.words.proofs.Runs.{same-words, same-words-eq, agreeing-take, agreeing-differ}
 use Rattle.words.specs.Listed.{upTo}
 use Rattle.words.proofs.Listed.{length-upTo, upTo-split}
 use Rattle.term.specs.Parts.{parse, treeIn}
-use Rattle.term.specs.Trees.{Tree, words, Formed}
+use Rattle.term.specs.Trees.{Tree, words}
 use Rattle.term.proofs.Parsing.{parse-tree}
 use Rattle.term.proofs.Theorems.{one-reading}
 use Rattle.term.proofs.Comparing.{first-difference}
 use Rattle.types.specs.Sorts.{Sort, Context}
-use Rattle.types.specs.Rules.{_⊢_∶_, WellFormed, Typed}
+use Rattle.types.specs.Rules.{_⊢_∶_, WellFormed}
 use Rattle.types.proofs.Complete.{unique}
 use Rattle.types.proofs.Strays.{typed-no-stray}
 use Rattle.meaning.specs.Choices.{Choice}
@@ -34,9 +34,9 @@ use Rattle.rules.proofs.Steps.{run-keeps-meaning, run-proves}
 use Rattle.step.specs.declared.run.Answer as A
 use Rattle.lent.specs.declared.faults.Fault.{Fault}
 use Rattle.step.specs.Answers.{held}
-use Rattle.lent.specs.Lent.{moveIn, movesIn, stepsFault}
+use Rattle.lent.specs.Lent.{moveIn, movesIn}
 use Rattle.lent.specs.Faults.{fault, faultIn}
-use Rattle.step.specs.Runs.{refusal, compared, answered, runFrom, runIn, runAnswer, slice, leftAfter, rightAfter}
+use Rattle.step.specs.Runs.{compared, answered, runFrom, runIn, runAnswer, slice, leftAfter, rightAfter}
 use Rattle.step.specs.Derivations.{AllTaken, Accepted, Decision, untouched, refused, stopped, differ, accepted, Kept}
 use Rattle.lent.specs.Refusals.{Refused, wrong-size, bad-declarations, no-term, bad-steps, left-stray, left-untyped, left-no-type, right-stray, right-untyped, right-no-type, types-differ, Begun, Judged, found, none}
 use Rattle.step.specs.Statements.{Accepts, Decides, Keeps, Proves, Pieces}

@@ -83,7 +83,7 @@ module _ (ds ws : List ℕ) (n : ℕ) (accepted : typingOf ds ws n .code ≡ 0) 
     abbrev after : R.Stepped
     after = stepIn ds ws n s
 
-    outcome : Outcome (contextIn ds) tree (asked s) (after .code) (after .tree)
+    pub outcome : Outcome (contextIn ds) tree (asked s) (after .code) (after .tree)
     outcome = rw (its-step is-typed s) (step-decided (contextIn ds) (well-formed ds (is-typed .good)) sort tree (its-type is-typed) (asked s))
 
     pub stays : after .code ≢ 0 → after .tree ≡ tree

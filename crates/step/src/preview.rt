@@ -1,5 +1,6 @@
 // A step shown before it is taken: what it would answer, and the length, the depth and the type of what it would leave. The slice is lent to be read, so that nothing can be written.
 use crate::stepping::make;
+use families::keeps_depth;
 use lent::steps::Step;
 use term::parts::part_at;
 use typing::terms::TermType;
@@ -13,17 +14,29 @@ ghost use lib.ListN.{length};
 ghost use Rattle.term.specs.Parts.{partDepth};
 ghost use Rattle.step.specs.Previews.{shown, previewOf};
 
-// The depth of the term whose words are these and then those. A lookup tells it, once they stand in one slice.
+// The depth of the term whose words are these and then those, which fit the slice. A lookup tells it, once they stand there.
+fn depth_in(all: &mut [u16], front: &[u16], back: &[u16]) -> usize
+    requires { ⌜ length (now front) + length (now back) ≤ length (now all) ⌝ }
+    ensures { λ r. ⌜ r ≡ partDepth (now (front .entry) ++ now (back .entry)) 0 ⌝ }
+{
+    let middle = append(all, 0, front);
+    let end = append(all, middle, back);
+    let mut depth = 0;
+    let whole = part_at(&all[..end], 0, &mut depth);
+    depth
+}
+
+// The same, in a slice of its own: to clear a large one takes longer than to show a step of few words.
 fn depth_of_both(front: &[u16], back: &[u16]) -> usize
     requires { ⌜ length (now front) + length (now back) ≤ 4096 ⌝ }
     ensures { λ r. ⌜ r ≡ partDepth (now (front .entry) ++ now (back .entry)) 0 ⌝ }
 {
-    let mut all = [0u16; 4096];
-    let middle = append(&mut all, 0, front);
-    let end = append(&mut all, middle, back);
-    let mut depth = 0;
-    let whole = part_at(&all[..end], 0, &mut depth);
-    depth
+    if front.len() + back.len() <= 256 {
+        let mut few = [0u16; 256];
+        return depth_in(&mut few, front, back);
+    }
+    let mut many = [0u16; 4096];
+    depth_in(&mut many, front, back)
 }
 
 // What a step answers on a typed term, with the depth of what it leaves. It keeps the type.
@@ -58,6 +71,9 @@ pub fn preview_step(ds: &[u16], ws: &[u16], n: usize, s: Step) -> Typing
         return showing(made.code, place, n, typing.depth, of);
     }
     let end = made.end;
+    if keeps_depth(s.rule as usize) {
+        return showing(0, place, place + end, typing.depth, of);
+    }
     let depth = depth_of_both(&ws[..place], &out[..end]);
     showing(0, place, place + end, depth, of)
 }

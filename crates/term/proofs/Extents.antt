@@ -8,10 +8,10 @@ use native.Mathlib.Omega.{arith}
 use lib.ListN.{length, drop, getD, set, length-append, length-set, drop-of-length-le}
 use lib.Seq.{drop-cons, drop-append-seam, getD-set-same, getD-set-other}
 use Rattle.term.specs.declared.heads.Arity.the-variants.{Unknown, Children}
-use Rattle.term.specs.Heads.{Label, labelled, unread, read, arityOf}
-use Rattle.term.specs.Trees.{Tree, Forest, node, none, _▹_, count, _⧺_, words, words*, Formed, Formed*, depth, depth*}
+use Rattle.term.specs.Heads.{Label, read, arityOf}
+use Rattle.term.specs.Trees.{Tree, Forest, node, none, _▹_, _⧺_, words, words*, Formed, Formed*, depth, depth*}
 use Rattle.term.specs.Parts.{Cut, short, cut, behind, chop, plant, grow, parse, first, firstDepth, part, partDepth}
-use Rattle.term.proofs.Parsing.{⧺-none, words*-⧺, parse-words*, accepted}
+use Rattle.term.proofs.Parsing.{⧺-none, parse-words*, accepted}
 use Rattle.term.proofs.Scan.{read-children, read-unknown, children-few}
 
 pub depth*-⧺ : (f g : Forest) → depth* (f ⧺ g) ≡ max (depth* f) (depth* g)

@@ -70,6 +70,13 @@ at-depth here u = omega arith
 at-depth (below p) u = omega (arith, at-depth p u)
 at-depth (later p) u = omega (arith, at-depth p u)
 
+-- a part as deep as the old one
+at-same : {f : Forest} {s : Tree} {w : Around} → At f s w → (u : Tree) → depth u ≡ depth s → depth* (w .put u) ≡ depth* f
+unfolding depth
+at-same here u e = omega arith
+at-same (below p) u e = omega (arith, at-same p u e)
+at-same (later p) u e = omega (arith, at-same p u e)
+
 -- ---- what `subtree`, `level` and `replace` give at the offset where a walk ends
 inside : {f : Forest} {s : Tree} {w : Around} → At f s w → length (w .before) < length (words* f)
 inside {s} p = rw (at-words p) (simp length-append (omega (arith, some-words s)))
@@ -229,6 +236,13 @@ length-replace t k s u e =
     let p = place t k (subtree-inside t k s e) in
     let x : p .here ≡ s = cc in
     rw (p .replaced u, p .whole, x) (simp length-append (omega arith))
+
+pub depth-same : (t : Tree) (k : ℕ) (s u : Tree) → subtree t k ≡ found s → depth u ≡ depth s → depth (replace t k u) ≡ depth t
+unfolding depth
+depth-same t k s u e d =
+    let p = see t k (subtree-inside t k s e) in
+    let x : p .place .here ≡ s = cc in
+    omega (arith, at-same (p .at) u (rw x d))
 
 -- ---- the level of a place by the words before it
 mutual

@@ -1,6 +1,5 @@
 -- One of the two spreadings, or none where an index is used.
 use mathlib.Core.Path.{refl}
-use native.Mathlib.Omega.{arith}
 use borrow.Author.Needs.{needs}
 use Rattle.families.proofs.Distributed.{distributes-none, distributes-first, distributes-second}
 use Rattle.families.proofs.distribute.Statement.{statement}

@@ -1,7 +1,6 @@
 -- The children of a part by their offsets, and the test of a head by its number.
-use mathlib.Core.Bool.{Bool, true, false}
-use Prim.Native.Nat.{ℕ, _+_, _/_}
-use lib.Dec.{eqb}
+use mathlib.Core.Bool.{true, false}
+use Prim.Native.Nat.{ℕ, _+_}
 use lib.ListN.{length}
 use Rattle.term.specs.Heads.{word}
 use Rattle.term.specs.Trees.{Tree, Forest, node, count, words, words*}

@@ -4,7 +4,7 @@ use mathlib.Core.Bool.{Bool, true, _||_}
 use mathlib.Core.List.{List}
 use Prim.Native.Nat.{ℕ, _/_, _<_}
 use lib.Dec.{eqb, ltb}
-use Rattle.term.specs.Heads.{Label, word}
+use Rattle.term.specs.Heads.{Label}
 use Rattle.term.specs.Parts.{parse, treeIn}
 use Rattle.types.specs.Sorts.{Context}
 use Rattle.rules.specs.Patterns.{Pattern}

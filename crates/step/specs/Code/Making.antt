@@ -11,7 +11,7 @@ use Rattle.term.specs.Terms.{maxWords, maxDepth}
 use Rattle.types.specs.Sorts.{Sort}
 use Rattle.types.specs.Rules.{Typed}
 use Rattle.declarations.specs.Declarations.{contextIn, goodDeclarations}
-use Rattle.rules.specs.Steps.{Stepped, few}
+use Rattle.rules.specs.Steps.{Stepped}
 use Rattle.families.specs.declared.writing.Rewritten.{Rewritten}
 
 -- the words of a typed term, under good declarations

@@ -1,13 +1,12 @@
 -- Each refusal is one law, and the result is four runs of the part's words.
 use mathlib.Core.Path.{_≡_, refl, sym, _∙_}
 use mathlib.Core.Bool.{true}
-use native.Mathlib.Omega.{arith}
 use borrow.Author.Needs.{needs}
 use borrow.Author.Tests.{not-true, not-false}
 use lib.ListN.{getD}
 use Rattle.words.proofs.Runs.{appended}
 use Rattle.families.specs.Code.Families.{looseWord}
-use Rattle.families.proofs.Split.{some-word, no-child, Split, split, child-bounds}
+use Rattle.families.proofs.Split.{some-word, no-child, Split, split}
 use Rattle.families.proofs.Next.{Next, next-child}
 use Rattle.families.proofs.Written.{refuses, writes}
 use Rattle.families.proofs.Swapped.{swaps-other, swaps-outside, swaps-last, swaps-children, swapped-few, swapped-written}

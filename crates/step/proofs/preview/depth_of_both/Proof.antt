@@ -1,46 +1,28 @@
--- The second run stands behind the first, and both are the front of the slice.
-use mathlib.Core.Path.{sym, _∙_}
+-- In one slice or the other.
 use borrow.Author.Needs.{needs}
-use lib.Seq.{length-take-le}
-use Rattle.step.proofs.Previewed.{both-there}
 use Rattle.step.proofs.preview.depth_of_both.Statement.{statement}
 use Rattle.step.proofs.preview.depth_of_both.Tie as tie
 
-slice-aggregate-append : tie.Need-slice-aggregate-append
-slice-aggregate-append c = search needs
+add-if1 : tie.Need-add-if1
+add-if1 c = search needs
 
-append-requires : tie.Need-append-requires
-append-requires c κs = search needs
+slice-aggregate-depth-in : tie.Need-slice-aggregate-depth-in
+slice-aggregate-depth-in c = search needs
 
-slice-aggregate-append-2 : tie.Need-slice-aggregate-append-2
-slice-aggregate-append-2 c = search needs
-
-append-requires-2 : tie.Need-append-requires-2
-append-requires-2 c κs = search needs
-
-array-share-prefix-all : tie.Need-array-share-prefix-all
-array-share-prefix-all c = both-there _ _ _ (c .before .before .before .before .append .ensures) (c .before .append2 .ensures) (c .before .before .before .before .before .before .before .before .pre) .0
-
-slice-aggregate-part-at : tie.Need-slice-aggregate-part-at
-slice-aggregate-part-at c = sym (length-take-le _ _ (both-there _ _ _ (c .before .before .before .before .before .append .ensures) (c .before .before .append2 .ensures) (c .before .before .before .before .before .before .before .before .before .pre) .0))
-
-part-at-requires : tie.Need-part-at-requires
-part-at-requires c κs = search needs
+depth-in-requires : tie.Need-depth-in-requires
+depth-in-requires c κs = search needs
 
 returns : tie.Need-returns
-returns c =
-    let at = c .before .before .before .before in
-    c .part-at .ensures .depth ∙ rw (both-there _ _ _ (at .before .before .before .append .ensures) (at .append2 .ensures) (at .before .before .before .before .before .before .before .pre) .1)
+returns c = search needs
+
+slice-aggregate-depth-in-2 : tie.Need-slice-aggregate-depth-in-2
+slice-aggregate-depth-in-2 c = search needs
+
+depth-in-requires-2 : tie.Need-depth-in-requires-2
+depth-in-requires-2 c κs = search needs
+
+returns-2 : tie.Need-returns-2
+returns-2 c = search needs
 
 pub depth-of-both-spec : {M : Type 1} → statement M
-depth-of-both-spec =
-    tie.close
-    (tie.spec
-    slice-aggregate-append
-    append-requires
-    slice-aggregate-append-2
-    append-requires-2
-    array-share-prefix-all
-    slice-aggregate-part-at
-    part-at-requires
-    returns)
+depth-of-both-spec = tie.close (tie.spec add-if1 slice-aggregate-depth-in depth-in-requires returns slice-aggregate-depth-in-2 depth-in-requires-2 returns-2)

@@ -6,7 +6,7 @@ use lib.Seq.{length-take-le}
 use Rattle.typing.specs.declared.terms.Typing.{Typing}
 use Rattle.typing.specs.Answers.{typingOf}
 use Rattle.step.proofs.Taking.{slice-size, inside-slice, termed, room, room-out, made-for}
-use Rattle.step.proofs.Previewed.{preview-refused, shows-refused, shows-done}
+use Rattle.step.proofs.Previewed.{preview-refused, shows-refused, shows-kept, shows-done}
 use Rattle.step.proofs.preview.preview_step.Statement.{statement}
 use Rattle.step.proofs.preview.preview_step.Tie as tie
 
@@ -42,35 +42,17 @@ returns-2 c =
     let e = done .before .before .before .before .before .before .before .type-term .ensures in
     shows-refused _ _ _ a _ e (made-for _ _ _ a _ _ _ (done .make .ensures)) (c .before .if2 .taken) (c .showing .ensures)
 
-slice-aggregate-depth-of-both : tie.Need-slice-aggregate-depth-of-both
-slice-aggregate-depth-of-both c =
-    let done = c .before .before .before .before in
-    let a = accepted (done .before .before .before .before .before) in
-    sym (length-take-le _ _ (omega (arith, room _ _ _ a _ _ _ (made-for _ _ _ a _ _ _ (done .make .ensures)) (c .before .if2 .left))))
+cast-keeps-depth : tie.Need-cast-keeps-depth
+cast-keeps-depth c = search needs
 
-array-share-prefix-out : tie.Need-array-share-prefix-out
-array-share-prefix-out c =
-    let done = c .before .before .before .before in
-    let a = accepted (done .before .before .before .before .before) in
-    room-out _ _ _ a _ _ _ (made-for _ _ _ a _ _ _ (done .make .ensures)) (c .before .if2 .left)
-
-slice-aggregate-depth-of-both-2 : tie.Need-slice-aggregate-depth-of-both-2
-slice-aggregate-depth-of-both-2 c = sym (length-take-le _ _ (array-share-prefix-out (c .before)))
-
-depth-of-both-requires : tie.Need-depth-of-both-requires
-depth-of-both-requires c κs =
-    let done = c .before .before .before .before .before in
-    let a = accepted (done .before .before .before .before .before) in
-    let start = done .before .before .before .before .before .before .before .before .before .before in
-    let r = room _ _ _ a _ _ _ (made-for _ _ _ a _ _ _ (done .make .ensures)) (c .before .before .if2 .left) in
-    rw (length-take-le _ _ (array-share-prefix-out (c .before)), length-take-le (start .args .s .place) (start .args .ws .now) (omega (arith, r))) (omega (arith, r, slice-size _ _ _ a))
+keeps-depth-requires : tie.Need-keeps-depth-requires
+keeps-depth-requires c κs = search needs
 
 add-showing : tie.Need-add-showing
 add-showing c =
     let done = c .before .before .before .before .before .before in
     let a = accepted (done .before .before .before .before .before) in
-    let r = room _ _ _ a _ _ _ (made-for _ _ _ a _ _ _ (done .make .ensures)) (c .before .before .before .if2 .left) in
-    omega (arith, r, slice-size _ _ _ a)
+    omega (arith, room _ _ _ a _ _ _ (made-for _ _ _ a _ _ _ (done .make .ensures)) (c .before .before .before .if2 .left), slice-size _ _ _ a)
 
 showing-requires-2 : tie.Need-showing-requires-2
 showing-requires-2 c κs = search needs
@@ -80,7 +62,46 @@ returns-3 c =
     let done = c .before .before .before .before .before .before .before in
     let a = accepted (done .before .before .before .before .before) in
     let e = done .before .before .before .before .before .before .before .type-term .ensures in
-    shows-done _ _ _ a _ e (made-for _ _ _ a _ _ _ (done .make .ensures)) (c .before .before .before .before .if2 .left) (c .before .depth-of-both .ensures) (c .showing2 .ensures)
+    shows-kept _ _ _ a _ e (made-for _ _ _ a _ _ _ (done .make .ensures)) (c .before .before .before .before .if2 .left) (sym (c .before .before .keeps-depth .ensures) ∙ c .before .if3 .taken) (c .showing2 .ensures)
+
+slice-aggregate-depth-of-both : tie.Need-slice-aggregate-depth-of-both
+slice-aggregate-depth-of-both c =
+    let done = c .before .before .before .before .before .before .before in
+    let a = accepted (done .before .before .before .before .before) in
+    sym (length-take-le _ _ (omega (arith, room _ _ _ a _ _ _ (made-for _ _ _ a _ _ _ (done .make .ensures)) (c .before .before .before .before .if2 .left))))
+
+array-share-prefix-out : tie.Need-array-share-prefix-out
+array-share-prefix-out c =
+    let done = c .before .before .before .before .before .before .before in
+    let a = accepted (done .before .before .before .before .before) in
+    room-out _ _ _ a _ _ _ (made-for _ _ _ a _ _ _ (done .make .ensures)) (c .before .before .before .before .if2 .left)
+
+slice-aggregate-depth-of-both-2 : tie.Need-slice-aggregate-depth-of-both-2
+slice-aggregate-depth-of-both-2 c = sym (length-take-le _ _ (array-share-prefix-out (c .before)))
+
+depth-of-both-requires : tie.Need-depth-of-both-requires
+depth-of-both-requires c κs =
+    let done = c .before .before .before .before .before .before .before .before in
+    let a = accepted (done .before .before .before .before .before) in
+    let start = done .before .before .before .before .before .before .before .before .before .before in
+    let r = room _ _ _ a _ _ _ (made-for _ _ _ a _ _ _ (done .make .ensures)) (c .before .before .before .before .before .if2 .left) in
+    rw (length-take-le _ _ (array-share-prefix-out (c .before)), length-take-le (start .args .s .place) (start .args .ws .now) (omega (arith, r))) (omega (arith, r, slice-size _ _ _ a))
+
+add-showing-2 : tie.Need-add-showing-2
+add-showing-2 c =
+    let done = c .before .before .before .before .before .before .before .before .before in
+    let a = accepted (done .before .before .before .before .before) in
+    omega (arith, room _ _ _ a _ _ _ (made-for _ _ _ a _ _ _ (done .make .ensures)) (c .before .before .before .before .before .before .if2 .left), slice-size _ _ _ a)
+
+showing-requires-3 : tie.Need-showing-requires-3
+showing-requires-3 c κs = search needs
+
+returns-4 : tie.Need-returns-4
+returns-4 c =
+    let done = c .before .before .before .before .before .before .before .before .before .before in
+    let a = accepted (done .before .before .before .before .before) in
+    let e = done .before .before .before .before .before .before .before .type-term .ensures in
+    shows-done _ _ _ a _ e (made-for _ _ _ a _ _ _ (done .make .ensures)) (c .before .before .before .before .before .before .before .if2 .left) (c .before .depth-of-both .ensures) (c .showing3 .ensures)
 
 pub preview-step-spec : {M : Type 1} → statement M
 preview-step-spec =
@@ -94,10 +115,15 @@ preview-step-spec =
     make-requires
     showing-requires
     returns-2
+    cast-keeps-depth
+    keeps-depth-requires
+    add-showing
+    showing-requires-2
+    returns-3
     slice-aggregate-depth-of-both
     array-share-prefix-out
     slice-aggregate-depth-of-both-2
     depth-of-both-requires
-    add-showing
-    showing-requires-2
-    returns-3)
+    add-showing-2
+    showing-requires-3
+    returns-4)

@@ -1,6 +1,5 @@
 -- The same, or the first difference.
 use mathlib.Core.Path.{sym, _∙_}
-use native.Mathlib.Omega.{arith}
 use lib.Seq.{length-take-le}
 use Rattle.step.specs.Runs.{compared}
 use borrow.Author.Needs.{needs}

@@ -1,6 +1,4 @@
 -- The step is taken on the side that is named; the other side stays.
-use mathlib.Core.Path.{_≡_, refl}
-use mathlib.Core.Bool.{true}
 use borrow.Author.Tests.{ne-eqb}
 use Rattle.lent.specs.Lent.{sideIn}
 use Rattle.step.proofs.Moving.{asks, moved-left, moved-right}

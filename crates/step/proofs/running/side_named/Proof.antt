@@ -1,7 +1,6 @@
 -- Right where the word says so.
 use borrow.Author.Tests.{ne-eqb}
 use Rattle.lent.specs.Lent.{sideIn}
-use borrow.Author.Needs.{needs}
 use Rattle.step.proofs.running.side_named.Statement.{statement}
 use Rattle.step.proofs.running.side_named.Tie as tie
 

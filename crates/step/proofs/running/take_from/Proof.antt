@@ -1,6 +1,6 @@
 -- The invariant: what is left of the whole run is the run of the steps from `k` on, on the sides that the slices hold.
 use mathlib.Core.Path.{_≡_, refl}
-use Prim.Native.Nat.{ℕ, _-_, _≤_}
+use Prim.Native.Nat.{_-_, _≤_}
 use native.Mathlib.Omega.{arith}
 use lib.ListN.{length}
 use Rattle.types.specs.Sorts.{Sort}
