@@ -1,12 +1,12 @@
 -- Slices of a case: filling one word at a time, and what was read into a front.
 use mathlib.Core.Path.{_≡_, _∙_, ap}
-use mathlib.Core.List.{List, _∷_, _++_, append-assoc, append-nil}
+use mathlib.Core.List.{List, append-assoc, append-nil}
 use Prim.Native.Nat.{ℕ, suc, _+_, _-_, _≤_, _<_, min, max}
 use native.Mathlib.Numerals.{add-one}
 use native.Mathlib.Decide.{decLe}
 use native.Mathlib.Omega.{arith}
 use denote.Ref.{RefT, now}
-use lib.ListN.{length, take, drop, set, length-set, length-take, take-append-drop, drop-of-length-le}
+use lib.ListN.{length, set, length-set, length-take, take-append-drop, drop-of-length-le}
 use lib.Seq.{take-all, take-suc-set, drop-set-lt, set-out}
 use Rattle.cases.specs.Slices.{filled, Front, Taken}
 

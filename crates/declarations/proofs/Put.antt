@@ -2,18 +2,22 @@
 use mathlib.Core.Path.{_≡_, refl, sym, _∙_}
 use mathlib.Core.Logic.{_≢_}
 use mathlib.Core.Bool.{Bool, true, false, cond, not}
-use mathlib.Core.List.{List}
+use mathlib.Core.List.{List, [], _∷_}
 use Prim.Native.Nat.{ℕ, suc, _+_, _≤_, _<_}
 use native.Mathlib.Numerals.{add-one}
 use native.Mathlib.Omega.{arith}
 use borrow.Author.Tests.{eqb-true, eqb-false}
+use denote.Enum.Declared.{tagOf}
+use types.Run.{OneOf, miss}
 use lib.Dec.{eqb}
 use lib.ListN.{length, drop, getD, set, drop-of-length-le}
 use lib.Seq.{drop-cons, sets}
 use Rattle.term.specs.Terms.{maxIndex, maxNames}
+use Rattle.declarations.specs.declared.constructor.Put.{Put}
 use Rattle.declarations.specs.declared.constructor.Put.the-variants.{Done, WrongSize, Full, Bad}
 use Rattle.declarations.specs.Declarations.{size, basisAt, variableAt, isIndex, isVariable}
-use Rattle.declarations.specs.Put.{room, basisPut, variablePut}
+use Rattle.declarations.specs.Put.{leaves, room, answer, basisPut, variablePut}
+use Rattle.declarations.proofs.constructor.Put.{the-type}
 use Rattle.declarations.proofs.Entries.{turned, counts, index-tests, variable-tests}
 
 -- ---- a run of stores, one more and none more
@@ -33,14 +37,9 @@ unfolding basisPut
 basis-laid ds index a e = rw (e, add-one (basisAt a))
 
 pub variable-laid : (ds : List ℕ) (kind : ℕ) (xs ys : List ℕ) (a : ℕ) → getD ds 2 0 ≡ a
-    → sets
-    (sets (set (set (set (set ds 2 (a + 1)) (variableAt a) kind) (variableAt a + 1) (length xs)) (variableAt a + 2) (length ys)) (variableAt a + 3) xs)
-    (variableAt a + 66) ys ≡ variablePut ds kind xs ys
+    → sets (sets (sets (set ds 2 (a + 1)) (variableAt a) (kind ∷ length xs ∷ length ys ∷ [])) (variableAt a + 3) xs) (variableAt a + 66) ys ≡ variablePut ds kind xs ys
 unfolding variablePut
-variable-laid ds kind xs ys a e =
-    let y : variableAt a + 2 ≡ suc (suc (variableAt a)) = omega arith in
-    let z : variableAt a + 3 ≡ suc (suc (suc (variableAt a))) = omega arith in
-    rw (e, y, z, add-one (variableAt a))
+variable-laid ds kind xs ys a e = let z : variableAt a + 3 ≡ suc (suc (suc (variableAt a))) = omega arith in rw (e, z)
 
 -- ---- where there is room
 tests-of : (b d e : Bool) → cond b (cond d (cond e Full Done) Bad) WrongSize ≡ Done → (b ≡ true) × (d ≡ true) × (e ≡ false)
@@ -56,6 +55,22 @@ room-done ds k h =
     let p = tests-of (eqb (length ds) size) _ (eqb (getD ds k 0) maxNames) h in
     let q = counts (getD ds 0 0) (getD ds 1 0) (getD ds 2 0) (p .1) in
     (eqb-true _ _ (p .0), q .1, q .2, eqb-false _ _ (p .2))
+
+pub answer-done : (r : Put) (fits : Bool) → answer r fits ≡ Done → (r ≡ Done) × (fits ≡ true)
+unfolding answer
+answer-done Done true h = (refl, refl)
+answer-done Done false h = absurd (let z : _≡_ {A = ℕ} 0 1 = cc in omega arith)
+answer-done WrongSize fits h = absurd (let z : _≡_ {A = ℕ} 0 1 = cc in omega arith)
+answer-done Full fits h = absurd (let z : _≡_ {A = ℕ} 0 1 = cc in omega arith)
+answer-done Bad fits h = absurd (let z : _≡_ {A = ℕ} 0 1 = cc in omega arith)
+
+-- any other answer leaves the words
+pub not-done : (r : Put) (made ds : List ℕ) → OneOf (1 ∷ 2 ∷ 3 ∷ []) (tagOf the-type r) → ds ≡ leaves r made ds
+unfolding leaves
+not-done Done made ds h = absurd (miss (1 ∷ 2 ∷ 3 ∷ []) 0 tt h)
+not-done WrongSize made ds h = refl
+not-done Full made ds h = refl
+not-done Bad made ds h = refl
 
 -- ---- what fits is short
 wanted-few : (b : Bool) (N : ℕ) (ws : List ℕ) → cond b (eqb (length ws) 0) (isIndex N ws) ≡ true → length ws ≤ maxIndex

@@ -95,6 +95,10 @@ goodVariable ds a =
     && (leb m maxIndex
     && isVariable (getD ds 0 0) (getD ds at 0) (take n (drop (at + 3) ds)) (take m (drop (at + 66) ds)))
 
+-- an entry of those that word k counts: 1 the basis names, 2 the variables
+unfoldable pub goodEntry : List ℕ → ℕ → ℕ → Bool
+goodEntry ds k = cond (eqb k 1) (goodBasis ds) (goodVariable ds)
+
 -- "Names are 0 to 31": no count is above 32
 unfoldable pub counted : ℕ → ℕ → ℕ → Bool
 counted types bases variables = leb types maxNames && (leb bases maxNames && leb variables maxNames)

@@ -4,6 +4,7 @@ use crate::are_counts;
 use crate::is_index;
 use crate::is_variable;
 use words::clear_from;
+use words::word_at;
 ghost use mathlib.Core.Path.{_≡_};
 ghost use Prim.Native.Nat.{_+_, _≤_, _<_};
 ghost use lib.ListN.{length, getD};
@@ -34,10 +35,10 @@ pub fn start(ds: &mut [u16], types: usize) -> Put
     Put::Done
 }
 
-// Whether there is room for one name more of those that word `k` counts.
-fn room_for(ds: &[u16], k: usize) -> Put
+// What to put one name more of those that word `k` counts answers: whether there is room, and then whether it fits.
+fn answer_for(ds: &[u16], k: usize, fits: bool) -> Put
     requires { ⌜ k < 3 ⌝ }
-    ensures { λ r. ⌜ r ≡ room (now (ds .entry)) k ⌝ }
+    ensures { λ r. ⌜ r ≡ answer (room (now (ds .entry)) k) fits ⌝ }
 {
     if ds.len() != SIZE {
         return Put::WrongSize;
@@ -48,7 +49,10 @@ fn room_for(ds: &[u16], k: usize) -> Put
     if ds[k] == 32 {
         return Put::Full;
     }
-    Put::Done
+    if fits {
+        return Put::Done;
+    }
+    Put::Bad
 }
 
 // Stores all of `ws` from `at` on.
@@ -80,10 +84,9 @@ fn add_variable(ds: &mut [u16], kind: u16, first: &[u16], second: &[u16])
 {
     let a = ds[2];
     let at = 2051 + (a as usize) * 129;
+    let head = [kind, first.len() as u16, second.len() as u16];
     ds[2] = a + 1;
-    ds[at] = kind;
-    ds[at + 1] = first.len() as u16;
-    ds[at + 2] = second.len() as u16;
+    lay(ds, at, &head);
     lay(ds, at + 3, first);
     lay(ds, at + 66, second);
 }
@@ -92,34 +95,22 @@ fn add_variable(ds: &mut [u16], kind: u16, first: &[u16], second: &[u16])
 pub fn put_basis(ds: &mut [u16], index: &[u16]) -> Put
     ensures { λ r. ⌜ (r ≡ answer (room (now (ds .entry)) 1) (isIndex (getD (now (ds .entry)) 0 0) (now (index .entry)))) × (now (ds .exit) ≡ leaves r (basisPut (now (ds .entry)) (now (index .entry))) (now (ds .entry))) ⌝ }
 {
-    match room_for(ds, 1) {
-        Put::Done => {
-            if !is_index(ds[0] as usize, index) {
-                return Put::Bad;
-            }
-            add_basis(ds, index);
-            Put::Done
-        }
-        Put::WrongSize => Put::WrongSize,
-        Put::Full => Put::Full,
-        Put::Bad => Put::Bad,
+    let types = word_at(ds, 0) as usize;
+    let r = answer_for(ds, 1, is_index(types, index));
+    if let Put::Done = r {
+        add_basis(ds, index);
     }
+    r
 }
 
 // One variable more, of a kind and exactly the indices that it wants.
 pub fn put_variable(ds: &mut [u16], kind: u16, first: &[u16], second: &[u16]) -> Put
     ensures { λ r. ⌜ (r ≡ answer (room (now (ds .entry)) 2) (isVariable (getD (now (ds .entry)) 0 0) kind (now (first .entry)) (now (second .entry)))) × (now (ds .exit) ≡ leaves r (variablePut (now (ds .entry)) kind (now (first .entry)) (now (second .entry))) (now (ds .entry))) ⌝ }
 {
-    match room_for(ds, 2) {
-        Put::Done => {
-            if !is_variable(ds[0] as usize, kind, first, second) {
-                return Put::Bad;
-            }
-            add_variable(ds, kind, first, second);
-            Put::Done
-        }
-        Put::WrongSize => Put::WrongSize,
-        Put::Full => Put::Full,
-        Put::Bad => Put::Bad,
+    let types = word_at(ds, 0) as usize;
+    let r = answer_for(ds, 2, is_variable(types, kind, first, second));
+    if let Put::Done = r {
+        add_variable(ds, kind, first, second);
     }
+    r
 }

@@ -5,12 +5,12 @@ use term::heads::INDEX_PRODUCT;
 use term::parts::part_end;
 use term::terms::Names;
 ghost use mathlib.Core.Path.{_≡_};
-ghost use mathlib.Core.Bool.{true, cond};
+ghost use mathlib.Core.Bool.{cond, _&&_};
 ghost use Prim.Native.Nat.{_+_, _≤_, _<_};
-ghost use lib.Dec.{eqb};
-ghost use lib.ListN.{length, getD};
+ghost use lib.Dec.{eqb, leb};
+ghost use lib.ListN.{length, take, drop, getD};
 ghost use Rattle.words.specs.Listed.{allUpTo};
-ghost use Rattle.declarations.specs.Declarations.{indexWord, indexWords, isIndex, isVariable, goodBasis, goodVariable, counted, goodDeclarations, namesIn};
+ghost use Rattle.declarations.specs.Declarations.{indexWord, indexWords, isIndex, isVariable, goodEntry, counted, goodDeclarations, namesIn};
 
 // The words of all declarations, used or not.
 pub const SIZE: usize = 6179;
@@ -61,21 +61,6 @@ pub fn is_index(types: usize, ws: &[u16]) -> bool
     are_index_words(types, ws)
 }
 
-// Each entry of a caller's slice. Its length word may say anything, so it is tested before the part is taken.
-fn basis_is_good(ds: &[u16], a: usize) -> bool
-    requires { ⌜ (length (now ds) ≡ 6179) × (a < 32) ⌝ }
-    ensures { λ r. ⌜ r ≡ goodBasis (now (ds .entry)) a ⌝ }
-{
-    let at = 3 + a * 64;
-    let n = ds[at] as usize;
-    if 63 < n {
-        return false;
-    }
-    let start = at + 1;
-    let end = start + n;
-    is_index(ds[0] as usize, &ds[start..end])
-}
-
 // Whether words are an index where one is wanted, and none where it is to be absent.
 fn is_wanted(absent: bool, types: usize, ws: &[u16]) -> bool
     ensures { λ r. ⌜ r ≡ cond absent (eqb (length (now (ws .entry))) 0) (isIndex types (now (ws .entry))) ⌝ }
@@ -99,54 +84,48 @@ pub fn is_variable(types: usize, kind: u16, first: &[u16], second: &[u16]) -> bo
     is_wanted(kind != 3, types, second)
 }
 
-fn variable_is_good(ds: &[u16], a: usize) -> bool
-    requires { ⌜ (length (now ds) ≡ 6179) × (a < 32) ⌝ }
-    ensures { λ r. ⌜ r ≡ goodVariable (now (ds .entry)) a ⌝ }
+// Whether the `n` words from `first` on and the `m` from `second` on are exactly the indices that a kind wants. A length word may say anything, so it is tested before the part is taken.
+fn has_indices(ds: &[u16], kind: u16, n: u16, first: usize, m: u16, second: usize) -> bool
+    requires { ⌜ (length (now ds) ≡ 6179) × (first + 63 ≤ 6179) × (second + 63 ≤ 6179) ⌝ }
+    ensures { λ r. ⌜ r ≡ (leb n 63 && (leb m 63 && isVariable (getD (now (ds .entry)) 0 0) kind (take n (drop first (now (ds .entry)))) (take m (drop second (now (ds .entry)))))) ⌝ }
 {
-    let at = 2051 + a * 129;
-    let n = ds[at + 1] as usize;
-    let m = ds[at + 2] as usize;
     if 63 < n {
         return false;
     }
     if 63 < m {
         return false;
     }
-    let first = at + 3;
-    let second = at + 66;
-    let first_end = first + n;
-    let second_end = second + m;
+    let first_end = first + n as usize;
+    let second_end = second + m as usize;
     is_variable(
         ds[0] as usize,
-        ds[at],
+        kind,
         &ds[first..first_end],
         &ds[second..second_end],
     )
 }
 
-fn bases_are_good(ds: &[u16]) -> bool
-    requires { ⌜ (length (now ds) ≡ 6179) × (getD (now ds) 1 0 ≤ 32) ⌝ }
-    ensures { λ r. ⌜ r ≡ allUpTo (getD (now (ds .entry)) 1 0) (goodBasis (now (ds .entry))) ⌝ }
+// An entry of those that word `k` counts: 1 the basis names, each of which wants one index as a ket does, and 2 the variables.
+fn entry_is_good(ds: &[u16], k: usize, a: usize) -> bool
+    requires { ⌜ (length (now ds) ≡ 6179) × (a < 32) ⌝ }
+    ensures { λ r. ⌜ r ≡ goodEntry (now (ds .entry)) k a ⌝ }
 {
-    let n = ds[1] as usize;
-    let mut a = 0;
-    while a < n {
-        if !basis_is_good(ds, a) {
-            return false;
-        }
-        a += 1;
+    if k == 1 {
+        let basis = 3 + a * 64;
+        return has_indices(ds, 1, ds[basis], basis + 1, 0, 0);
     }
-    true
+    let at = 2051 + a * 129;
+    has_indices(ds, ds[at], ds[at + 1], at + 3, ds[at + 2], at + 66)
 }
 
-fn variables_are_good(ds: &[u16]) -> bool
-    requires { ⌜ (length (now ds) ≡ 6179) × (getD (now ds) 2 0 ≤ 32) ⌝ }
-    ensures { λ r. ⌜ r ≡ allUpTo (getD (now (ds .entry)) 2 0) (goodVariable (now (ds .entry))) ⌝ }
+fn entries_are_good(ds: &[u16], k: usize) -> bool
+    requires { ⌜ (length (now ds) ≡ 6179) × (k < 3) × (getD (now ds) k 0 ≤ 32) ⌝ }
+    ensures { λ r. ⌜ r ≡ allUpTo (getD (now (ds .entry)) k 0) (goodEntry (now (ds .entry)) k) ⌝ }
 {
-    let n = ds[2] as usize;
+    let n = ds[k] as usize;
     let mut a = 0;
     while a < n {
-        if !variable_is_good(ds, a) {
+        if !entry_is_good(ds, k, a) {
             return false;
         }
         a += 1;
@@ -177,10 +156,10 @@ pub fn are_good(ds: &[u16]) -> bool
     if !are_counts(ds[0], ds[1], ds[2]) {
         return false;
     }
-    if !bases_are_good(ds) {
+    if !entries_are_good(ds, 1) {
         return false;
     }
-    variables_are_good(ds)
+    entries_are_good(ds, 2)
 }
 
 // How many names of each kind are declared; none where the slice is not of the size.

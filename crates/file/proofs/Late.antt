@@ -1,5 +1,5 @@
 -- The codes of steps: 0, or from 20 to 23; and 1 is no code of a file of the form.
-use mathlib.Core.Path.{_≡_, refl}
+use mathlib.Core.Path.{refl}
 use mathlib.Core.Logic.{_≢_, inl, inr}
 use mathlib.Core.List.{List}
 use Prim.Native.Nat.{ℕ, _≤_, _<_}

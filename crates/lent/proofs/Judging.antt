@@ -1,16 +1,14 @@
 -- The first fault, from what typing says of the two sides.
 use mathlib.Core.Path.{_≡_, refl, sym, _∙_}
 use mathlib.Core.Logic.{_≢_}
-use mathlib.Core.Bool.{Bool, true, false, cond, and-true}
+use mathlib.Core.Bool.{Bool, true, false, cond}
 use mathlib.Core.List.{List}
 use Prim.Native.Nat.{ℕ}
 use native.Mathlib.Omega.{arith}
 use borrow.Author.Tests.{eq-eqb, ne-eqb, eqb-true, eqb-false}
 use lib.Dec.{eqb}
-use lib.ListN.{length, take}
-use Rattle.words.specs.Words.{sameWords}
+use lib.ListN.{length}
 use Rattle.words.proofs.Runs.{same-words}
-use Rattle.term.specs.Parts.{parse, treeIn}
 use Rattle.term.specs.Terms.{maxWords}
 use Rattle.term.specs.Trees.{Tree, depth}
 use Rattle.types.specs.Sorts.{Sort, index, basis, scalar, ket, bra, operator, IsType}
@@ -26,11 +24,10 @@ use Rattle.typing.specs.declared.terms.Typing.{Typing}
 use Rattle.typing.specs.Answers.{refuse, typing, answerOf, typingOf, sizesOf, HeldTerm, TypedTerm}
 use Rattle.typing.specs.Answers as Said
 use Rattle.typing.proofs.Theorems.{complete-entry, decided}
-use Rattle.rules.specs.Steps.{Sides}
 use Rattle.lent.specs.declared.faults.Fault.{Fault}
 use Rattle.lent.specs.Lent.{stepsFault}
 use Rattle.lent.specs.Faults.{sameSizes, sameType, fault, typesFault, earlyCode, faultOf, faultIn}
-use Rattle.lent.specs.Refusals.{InOrder, Begun, Refused, wrong-size, bad-declarations, no-term, bad-steps, left-stray, left-untyped, left-no-type, right-stray, right-untyped, right-no-type, types-differ, Judged, found, none}
+use Rattle.lent.specs.Refusals.{InOrder, Refused, wrong-size, bad-declarations, no-term, bad-steps, left-stray, left-untyped, left-no-type, right-stray, right-untyped, right-no-type, types-differ, Judged, found, none}
 use Rattle.lent.specs.Statements.{Judges}
 use Rattle.lent.proofs.Tests.{fitting, in-order, of-type, answers-same, sorts-same}
 

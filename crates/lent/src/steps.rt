@@ -4,7 +4,7 @@ use words::append;
 ghost use mathlib.Core.Path.{_≡_};
 ghost use mathlib.Core.Bool.{true};
 ghost use Prim.Native.Nat.{_≤_, _<_};
-ghost use lib.ListN.{length, getD};
+ghost use lib.ListN.{length};
 ghost use Rattle.words.specs.Listed.{allUpTo};
 ghost use Rattle.rules.specs.Steps.{sideNumber};
 ghost use Rattle.lent.specs.Lent.{asked, stepAt, isSide, sided, stepsFault, hasRoom, stepPut};

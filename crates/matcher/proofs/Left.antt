@@ -1,7 +1,7 @@
 -- A left side's words, walked over a part's, find what the left side matches of the part.
 use mathlib.Core.Path.{_≡_, refl, sym, _∙_, ap}
 use mathlib.Core.Logic.{_≢_}
-use mathlib.Core.Bool.{Bool, true, false, cond, _&&_}
+use mathlib.Core.Bool.{Bool, true, false, cond}
 use mathlib.Core.List.{List, [], _∷_, _++_, append-assoc, append-nil}
 use mathlib.Core.Option.{Option, some, none}
 use Prim.Native.Nat.{ℕ, zero, suc, _+_, _-_, _*_, _/_, _≤_, _<_}
@@ -9,23 +9,23 @@ use native.Mathlib.Decide.{ℕ-discrete}
 use native.Mathlib.Omega.{arith}
 use borrow.Author.Tests.{lt-ltb, ltb-true, leb-true, ne-eqb, eqb-true, eqb-false}
 use lib.Arith.{digits-div, digits-mod}
-use lib.Dec.{eqb, ltb}
-use lib.ListN.{length, take, drop, getD, set, length-append, length-drop}
+use lib.Dec.{eqb}
+use lib.ListN.{length, take, drop, getD, length-append, length-drop}
 use lib.Seq.{getD-set-same, getD-set-other, getD-drop, drop-drop, drop-at, take-at}
 use Rattle.words.specs.Words.{sameWords}
 use Rattle.term.specs.Heads.{Label, word}
-use Rattle.term.specs.Trees.{Tree, Forest, node, none as no-tree, _▹_, count, words, words*, Formed}
+use Rattle.term.specs.Trees.{Tree, Forest, node, none as no-tree, _▹_, count, words, Formed}
 use Rattle.term.specs.Parts.{part, first}
 use Rattle.term.proofs.Parsing.{parse-words, some-words}
 use Rattle.types.specs.Sorts.{Context}
-use Rattle.rules.specs.Patterns.{Pattern, #_, first as first-of, second as second-of, _⟨⟩, _⟨_⟩, _⟨_∣_⟩, no-index}
+use Rattle.rules.specs.Patterns.{Pattern, #_, first as first-of, second as second-of, _⟨⟩, _⟨_⟩, _⟨_∣_⟩}
 use Rattle.rules.specs.Rewrite.{isHead, nameless, andThen, hold, match, holes}
 use Rattle.rules.proofs.Good.{met, inOrder, both, all-three}
 use Rattle.rules.proofs.Matching.{AllFormed, matched}
 use Rattle.rulebook.specs.Code.Rows.{patternWords}
 use Rattle.rulebook.proofs.Made.{headWord, made, head-plain, head-count}
 use Rattle.matcher.specs.declared.Match.{Match}
-use Rattle.matcher.specs.Matching.{startOf, endOf, heldIn, Standing, Holds, stopped, passed, taken, holeMatched, wordMatched, matchFrom}
+use Rattle.matcher.specs.Matching.{heldIn, Holds, stopped, passed, taken, holeMatched, wordMatched, matchFrom}
 use Rattle.matcher.proofs.Walks.{end-inside, standing-passed, standing-taken}
 
 -- a walk over the words of a part, with the words `ps` of the left side behind and the words `rest` behind the part: it goes on behind the part, or it has stopped

@@ -14,7 +14,7 @@ use Rattle.words.specs.Words.{sameWords}
 use Rattle.term.specs.Parts.{part}
 use Rattle.term.proofs.Scan.{part-front, part-length}
 use Rattle.matcher.specs.declared.Match.{Match}
-use Rattle.matcher.specs.Matching.{startOf, endOf, heldIn, Standing, began, stopped, passed, taken, holeMatched, isHole, wordMatched, matchFrom, matchOf}
+use Rattle.matcher.specs.Matching.{heldIn, Standing, began, stopped, passed, taken, holeMatched, isHole, wordMatched, matchFrom, matchOf}
 
 -- the part with which they begin
 module _ {ws here : List ℕ} {m : Match} {size : ℕ} (s : Standing ws m) (e : here ≡ drop (m .at) ws) (z : size ≡ 0 + length (part here 0)) where

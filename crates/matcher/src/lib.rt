@@ -4,7 +4,7 @@ use term::parts::part_end;
 use words::same;
 ghost use mathlib.Core.Path.{_≡_};
 ghost use Prim.Native.Nat.{_<_};
-ghost use lib.ListN.{length, drop};
+ghost use lib.ListN.{drop};
 ghost use Rattle.matcher.specs.Matching.{Standing, began, stopped, passed, taken, holeMatched, wordMatched, matchOf};
 
 // What a walk found: how many holes were met, and from where up to where the part of each stands. Where it stopped, `wanted` is the word of the left side that was not met at

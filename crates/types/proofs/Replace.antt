@@ -9,7 +9,7 @@ use lib.ListN.{length}
 use Rattle.term.specs.Trees.{Tree, Forest, node, none, _▹_, words, found, subtree, subtree*, replace, replace*}
 use Rattle.types.specs.Sorts.{Sort, Context}
 use Rattle.types.specs.Rules.{_⊢_∶_, WellFormed}
-use Rattle.types.specs.Inside.{later, inside, inside*}
+use Rattle.types.specs.Inside.{inside, inside*}
 use Rattle.types.proofs.Indices.{later-well}
 use Rattle.types.proofs.Complete.{unique}
 use Rattle.types.proofs.Sound.{Row, each-more, node-of}

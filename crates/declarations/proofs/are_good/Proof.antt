@@ -2,7 +2,7 @@
 use mathlib.Core.Path.{sym, _∙_}
 use borrow.Author.Tests.{eq-eqb, ne-eqb, not-true, not-false}
 use borrow.Author.Needs.{needs}
-use Rattle.declarations.specs.Declarations.{goodDeclarations}
+use Rattle.declarations.specs.Declarations.{goodEntry, goodDeclarations}
 use Rattle.declarations.proofs.Entries.{counts}
 use Rattle.declarations.proofs.are_good.Statement.{statement}
 use Rattle.declarations.proofs.are_good.Tie as tie
@@ -27,23 +27,23 @@ returns-2 : tie.Need-returns-2
 unfolding goodDeclarations
 returns-2 c = rw (eq-eqb _ _ (c .before .before .before .before .before .if1 .left), sym (c .before .are-counts .ensures) ∙ not-true _ (c .if2 .taken))
 
-bases-are-good-requires : tie.Need-bases-are-good-requires
-bases-are-good-requires c κs = (search needs, counts _ _ _ (sym (c .before .are-counts .ensures) ∙ not-false _ (c .if2 .left)) .1)
+entries-are-good-requires : tie.Need-entries-are-good-requires
+entries-are-good-requires c κs = (search needs, search needs, counts _ _ _ (sym (c .before .are-counts .ensures) ∙ not-false _ (c .if2 .left)) .1)
 
 returns-3 : tie.Need-returns-3
-unfolding goodDeclarations
+unfolding goodDeclarations goodEntry
 returns-3 c =
-    let e = sym (c .before .bases-are-good .ensures) ∙ not-true _ (c .if3 .taken) in
+    let e = sym (c .before .entries-are-good .ensures) ∙ not-true _ (c .if3 .taken) in
     rw (eq-eqb _ _ (c .before .before .before .before .before .before .before .if1 .left), sym (c .before .before .before .are-counts .ensures) ∙ not-false _ (c .before .before .if2 .left), e)
 
-variables-are-good-requires : tie.Need-variables-are-good-requires
-variables-are-good-requires c κs = (search needs, counts _ _ _ (sym (c .before .before .before .are-counts .ensures) ∙ not-false _ (c .before .before .if2 .left)) .2)
+entries-are-good-requires-2 : tie.Need-entries-are-good-requires-2
+entries-are-good-requires-2 c κs = (search needs, search needs, counts _ _ _ (sym (c .before .before .before .are-counts .ensures) ∙ not-false _ (c .before .before .if2 .left)) .2)
 
 returns-4 : tie.Need-returns-4
-unfolding goodDeclarations
+unfolding goodDeclarations goodEntry
 returns-4 c =
-    let e = sym (c .before .before .bases-are-good .ensures) ∙ not-false _ (c .before .if3 .left) in
-    rw (eq-eqb _ _ (c .before .before .before .before .before .before .before .before .if1 .left), sym (c .before .before .before .before .are-counts .ensures) ∙ not-false _ (c .before .before .before .if2 .left), e) (c .variables-are-good .ensures)
+    let e = sym (c .before .before .entries-are-good .ensures) ∙ not-false _ (c .before .if3 .left) in
+    rw (eq-eqb _ _ (c .before .before .before .before .before .before .before .before .if1 .left), sym (c .before .before .before .before .are-counts .ensures) ∙ not-false _ (c .before .before .before .if2 .left), e) (c .entries-are-good2 .ensures)
 
 pub are-good-spec : {M : Type 1} → statement M
 are-good-spec =
@@ -55,7 +55,7 @@ are-good-spec =
     shared-slice-read-are-counts-3
     are-counts-requires
     returns-2
-    bases-are-good-requires
+    entries-are-good-requires
     returns-3
-    variables-are-good-requires
+    entries-are-good-requires-2
     returns-4)

@@ -1,6 +1,5 @@
 -- Each answer is a case of the definition: a hole that is too many, no part, a hole met first, and one met before with the same words or with others.
 use mathlib.Core.Path.{sym, _∙_}
-use native.Mathlib.Omega.{arith}
 use borrow.Author.Needs.{needs}
 use lib.Seq.{length-take-le}
 use Rattle.matcher.proofs.Walks.{here-size, here-room, here-same, hole-many, no-part, hole-new, hole-again, hole-differs}

@@ -1,5 +1,4 @@
 -- The invariant: to match all the words is to match those from `k` on, from where the walk stands. The measure is how many are left.
-use mathlib.Core.Path.{sym, _∙_}
 use Prim.Native.Nat.{_-_, _≤_}
 use native.Mathlib.Omega.{arith}
 use borrow.Author.Needs.{needs}

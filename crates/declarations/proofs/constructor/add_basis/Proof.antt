@@ -1,8 +1,7 @@
 -- Two stores and the index behind them are the run of stores that the definition names.
-use mathlib.Core.Path.{refl, _∙_, ap}
+use mathlib.Core.Path.{refl, _∙_}
 use native.Mathlib.Omega.{arith}
-use lib.ListN.{length, length-set}
-use lib.Seq.{length-sets}
+use lib.ListN.{length-set}
 use borrow.Author.Needs.{needs}
 use Rattle.declarations.proofs.Put.{basis-laid}
 use Rattle.declarations.proofs.constructor.add_basis.Statement.{statement}
@@ -42,7 +41,7 @@ lay-requires : tie.Need-lay-requires
 lay-requires c κs = simp length-set (omega arith)
 
 same-length : tie.Need-same-length
-same-length c = ap length (c .before .before .lay .ensures) ∙ simp (length-sets, length-set)
+same-length c = c .before .before .lay .kept .0 ∙ simp length-set
 
 returns : tie.Need-returns
 returns c = c .before .before .lay .ensures ∙ basis-laid _ _ _ refl

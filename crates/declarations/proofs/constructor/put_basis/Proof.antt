@@ -1,103 +1,62 @@
--- The answer is room's, and where there is room the test's; what room tells and what fits give the bounds.
-use mathlib.Core.Path.{refl, sym, _∙_}
+-- The answer is told before anything is stored; where it is done, there is room and what is put is short.
+use mathlib.Core.Path.{sym, _∙_}
 use native.Mathlib.Omega.{arith}
-use borrow.Author.Tests.{not-true, not-false}
 use borrow.Author.Needs.{needs}
-use Rattle.declarations.specs.Put.{answer, leaves}
+use Rattle.declarations.specs.Put.{leaves}
 use Rattle.declarations.proofs.Entries.{index-tests}
-use Rattle.declarations.proofs.Put.{room-done}
+use Rattle.declarations.proofs.Put.{room-done, answer-done, not-done}
 use Rattle.declarations.proofs.constructor.put_basis.Statement.{statement}
 use Rattle.declarations.proofs.constructor.put_basis.Tie as tie
 
-room-for-requires : tie.Need-room-for-requires
-room-for-requires c κs = search needs
+word-at-requires : tie.Need-word-at-requires
+word-at-requires c κs = search needs
+
+cast-types : tie.Need-cast-types
+cast-types c = search needs
+
+is-index-requires : tie.Need-is-index-requires
+is-index-requires c κs = search needs
+
+answer-for-requires : tie.Need-answer-for-requires
+answer-for-requires c κs = search needs
 
 enum-told : tie.Need-enum-told
 enum-told c = search needs
 
-slice-read-is-index : tie.Need-slice-read-is-index
-slice-read-is-index c = omega (arith, room-done _ 1 (sym (c .before .before .before .room-for .ensures) ∙ c .before .enum-told .given .1))
-
-cast-is-index : tie.Need-cast-is-index
-cast-is-index c = omega (arith, c .slice-known2 .given 0)
-
-is-index-requires : tie.Need-is-index-requires
-is-index-requires c κs = search needs
+add-basis-requires : tie.Need-add-basis-requires
+add-basis-requires c κs =
+    let at = c .before .before .before in
+    let done = answer-done _ _ (sym (at .answer-for .ensures) ∙ c .before .enum-told .given .1) in
+    let room = room-done _ 1 (done .0) in
+    let short = index-tests _ _ (sym (at .before .is-index .ensures) ∙ done .1) in
+    omega arith
 
 same-length : tie.Need-same-length
 same-length c = search needs
 
 returns : tie.Need-returns
-unfolding answer leaves
+unfolding leaves
 returns c =
-    let fits = sym (c .before .is-index .ensures) ∙ not-true _ (c .if1 .taken) in
-    (rw (sym (c .before .before .before .before .before .room-for .ensures) ∙ c .before .before .before .enum-told .given .1, fits), refl)
-
-add-basis-requires : tie.Need-add-basis-requires
-add-basis-requires c κs =
-    let room = room-done _ 1 (sym (c .before .before .before .before .before .before .room-for .ensures) ∙ c .before .before .before .before .enum-told .given .1) in
-    let short = index-tests _ _ (sym (c .before .before .is-index .ensures) ∙ not-false _ (c .before .if1 .left)) in
-    omega arith
-
-enum-told-2 : tie.Need-enum-told-2
-enum-told-2 c = search needs
-
-enum-told-3 : tie.Need-enum-told-3
-enum-told-3 c = search needs
-
-enum-told-4 : tie.Need-enum-told-4
-enum-told-4 c = search needs
+    let at = c .before .before .before .before .before .before in
+    (at .answer-for .ensures ∙ rw (at .before .is-index .ensures, at .before .before .before .word-at .ensures), rw (c .before .before .before .before .enum-told .given .1) (c .before .before .add-basis .ensures))
 
 same-length-2 : tie.Need-same-length-2
 same-length-2 c = search needs
 
 returns-2 : tie.Need-returns-2
-unfolding answer leaves
-returns-2 c =
-    let fits = sym (c .before .before .before .before .before .is-index .ensures) ∙ not-false _ (c .before .before .before .before .if1 .left) in
-    (rw (sym (c .before .before .before .before .before .before .before .before .before .room-for .ensures) ∙ c .before .before .before .before .before .before .before .enum-told .given .1, fits), c .before .before .add-basis .ensures)
-
-same-length-3 : tie.Need-same-length-3
-same-length-3 c = search needs
-
-returns-3 : tie.Need-returns-3
-unfolding answer leaves
-returns-3 c = (rw (sym (c .before .before .room-for .ensures) ∙ c .enum-told2 .given .1), refl)
-
-same-length-4 : tie.Need-same-length-4
-same-length-4 c = search needs
-
-returns-4 : tie.Need-returns-4
-unfolding answer leaves
-returns-4 c = (rw (sym (c .before .before .room-for .ensures) ∙ c .enum-told3 .given .1), refl)
-
-same-length-5 : tie.Need-same-length-5
-same-length-5 c = search needs
-
-returns-5 : tie.Need-returns-5
-unfolding answer leaves
-returns-5 c = (rw (sym (c .before .before .room-for .ensures) ∙ c .enum-told4 .given .1), refl)
+returns-2 c = let at = c .before in (at .answer-for .ensures ∙ rw (at .before .is-index .ensures, at .before .before .before .word-at .ensures), not-done _ _ _ (c .match .keys2))
 
 pub put-basis-spec : {M : Type 1} → statement M
 put-basis-spec =
     tie.close
     (tie.spec
-    room-for-requires
-    enum-told
-    slice-read-is-index
-    cast-is-index
+    word-at-requires
+    cast-types
     is-index-requires
+    answer-for-requires
+    enum-told
+    add-basis-requires
     same-length
     returns
-    add-basis-requires
-    enum-told-2
-    enum-told-3
-    enum-told-4
     same-length-2
-    returns-2
-    same-length-3
-    returns-3
-    same-length-4
-    returns-4
-    same-length-5
-    returns-5)
+    returns-2)

@@ -1,7 +1,6 @@
 -- The tests in their order.
 use borrow.Author.Tests.{eq-eqb, ne-eqb}
 use Rattle.lent.specs.Faults.{earlyCode}
-use borrow.Author.Needs.{needs}
 use Rattle.lent.proofs.faults.early_code.Statement.{statement}
 use Rattle.lent.proofs.faults.early_code.Tie as tie
 

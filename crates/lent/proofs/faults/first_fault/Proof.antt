@@ -1,5 +1,5 @@
 -- What comes before the types, and then the types.
-use mathlib.Core.Path.{sym, _∙_}
+use mathlib.Core.Path.{_∙_}
 use Rattle.lent.proofs.Tests.{early-fault, late-fault}
 use borrow.Author.Needs.{needs}
 use Rattle.lent.proofs.faults.first_fault.Statement.{statement}

@@ -1,8 +1,6 @@
 -- Number by number.
-use mathlib.Core.Path.{refl}
 use borrow.Author.Tests.{eq-eqb, ne-eqb}
 use Rattle.lent.specs.Faults.{sameSizes}
-use borrow.Author.Needs.{needs}
 use Rattle.lent.proofs.faults.same_sizes.Statement.{statement}
 use Rattle.lent.proofs.faults.same_sizes.Tie as tie
 

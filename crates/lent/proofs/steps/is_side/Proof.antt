@@ -1,6 +1,5 @@
 -- The two tests one after the other.
 use borrow.Author.Tests.{ne-eqb}
-use borrow.Author.Needs.{needs}
 use Rattle.lent.proofs.steps.is_side.Statement.{statement}
 use Rattle.lent.proofs.steps.is_side.Tie as tie
 

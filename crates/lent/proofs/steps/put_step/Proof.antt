@@ -1,5 +1,4 @@
 -- A step is laid down where there is room for it.
-use mathlib.Core.Path.{sym, _∙_}
 use native.Mathlib.Omega.{arith}
 use Rattle.lent.proofs.Lending.{past-all, put-down}
 use borrow.Author.Needs.{needs}

@@ -4,7 +4,7 @@ use mathlib.Core.Bool.{_&&_}
 use Prim.Native.Nat.{_-_, _≤_}
 use native.Mathlib.Omega.{arith}
 use borrow.Author.Needs.{needs}
-use lib.ListN.{length, drop}
+use lib.ListN.{drop}
 use Rattle.text.specs.Bytes.{allFine}
 use Rattle.text.proofs.Scanned.{fine-more, fine-end}
 use Rattle.text.proofs.pieces.are_fine.Statement.{statement}

@@ -9,6 +9,8 @@ use borrow.Fn.Kinds.{In}
 use borrow.Fn.PlainCycle.{Measures, is, falls, and}
 use lib.ListN.{length, take, drop, getD, length-drop}
 use Rattle.words.proofs.Runs.{to-end}
+use Rattle.term.specs.Heads.{arityOf}
+use Rattle.term.specs.declared.heads.Arity.the-variants.{Children}
 use Rattle.term.proofs.Scan.{children-few}
 use Rattle.declarations.specs.Declarations.{contextAt}
 use Rattle.typing.specs.Code.Chains.{budgetOf, aroundOf, Held}
@@ -80,6 +82,29 @@ type-part-Inv-loop ds ws stack₀ top within word n head g₀ deepest₀ next₀
 abbrev type-part-μ-loop : type-part-lts.MeasureT-loop
 type-part-μ-loop ds ws stack₀ top within word n head g₀ deepest₀ next₀ k₀ stack g deepest next k = n - k
 
+-- ---- what the needs in the loop and behind it look back to: where the function begins, and what its first word asks for
+abbrev Begun : ℕ → Type 0
+Begun t = type-part-lts.Start (claims t) (type-part-at t) type-part.Post type-part-Inv-loop type-part-μ-loop
+
+abbrev Loop : ℕ → Type 0
+Loop t = type-part-lts.At-loop (claims t) (type-part-at t) type-part.Post type-part-Inv-loop type-part-μ-loop
+
+abbrev begun : (t : ℕ) → Loop t → Begun t
+begun t at = at .before .before .before .before .before .before .before .before .before .before .before .before .before
+
+some-budget : (t : ℕ) (at : Loop t) → 0 < budgetOf (begun t at .args .within)
+some-budget t at = let z = at .before .before .before .before .before .before .before .before .if1 .left in let b = at .before .before .before .before .before .before .before .before .before .budget-of .ensures in omega arith
+
+wants : (t : ℕ) (at : Loop t) → arityOf (getD (begun t at .args .ws .now) 0 0) ≡ Children (at .before .before .before .before .n .given .0 .0)
+wants t at = rw (at .before .before .before .before .before .before .before .word-at .ensures) at (sym (at .before .before .before .before .before .before .arity-of .ensures) ∙ at .before .before .before .before .n .given .1)
+
+head-is : (t : ℕ) (at : Loop t) → at .before .before .before .before .before .before .before .word-at .result / 256 ≡ getD (begun t at .args .ws .now) 0 0 / 256
+head-is t at = ap (λ (w : ℕ). w / 256) (at .before .before .before .before .before .before .before .word-at .ensures)
+
+-- the children that are passed lie in the words
+passed : (t : ℕ) (at : Loop t) → at .loop .next ≤ length (begun t at .args .ws .now)
+passed t at = at .loop .inv .1 (begun t at .pre .1 .4) .inside
+
 type-part-budget-of-requires : (t : ℕ) → type-part-lts.Need-budget-of-requires (claims t) (type-part-at t) type-part.Post type-part-Inv-loop type-part-μ-loop
 type-part-budget-of-requires t c κs = search needs
 
@@ -142,49 +167,32 @@ type-part-loop-holds t c =
 type-part-enter-requires : (t : ℕ) → type-part-lts.Need-enter-requires (claims t) (type-part-at t) type-part.Post type-part-Inv-loop type-part-μ-loop
 type-part-enter-requires t c κs =
     let at = c .before .before .before in
-    let start = at .before .before .before .before .before .before .before .before .before .before .before .before .before in
+    let start = begun t at in
     let x = start .pre .1 .4 in
     let w = at .loop .inv .1 x in
     let r = start .pre .1 .1 in
     let l = w .kept .long in
     let m = start .pre .1 .2 in
     let u = start .pre .1 .3 in
-    let z = at .before .before .before .before .before .before .before .before .if1 .left in
-    let b = at .before .before .before .before .before .before .before .before .before .budget-of .ensures in
+    let z = some-budget t at in
     (omega arith, omega arith, free-at w .small, omega (arith, chain-low (x .chain)), omega arith, omega arith)
 
 type-part-mul-type-part : (t : ℕ) → type-part-lts.Need-mul-type-part (claims t) (type-part-at t) type-part.Post type-part-Inv-loop type-part-μ-loop
-type-part-mul-type-part t c =
-    let at = c .before .before .before .before .before .before in
-    let start = at .before .before .before .before .before .before .before .before .before .before .before .before .before in
-    let i = at .loop .inv .1 (start .pre .1 .4) .inside in
-    search needs
+type-part-mul-type-part t c = let at = c .before .before .before .before .before .before in let start = begun t at in let i = passed t at in search needs
 
 type-part-sub-type-part : (t : ℕ) → type-part-lts.Need-sub-type-part (claims t) (type-part-at t) type-part.Post type-part-Inv-loop type-part-μ-loop
-type-part-sub-type-part t c =
-    let at = c .before .before .before .before .before .before in
-    let start = at .before .before .before .before .before .before .before .before .before .before .before .before .before in
-    let i = at .loop .inv .1 (start .pre .1 .4) .inside in
-    search needs
+type-part-sub-type-part t c = let at = c .before .before .before .before .before .before in let start = begun t at in let i = passed t at in search needs
 
 type-part-part-type-part-start : (t : ℕ) → type-part-lts.Need-part-type-part-start (claims t) (type-part-at t) type-part.Post type-part-Inv-loop type-part-μ-loop
-type-part-part-type-part-start t c =
-    let at = c .before .before .before .before .before .before in
-    let start = at .before .before .before .before .before .before .before .before .before .before .before .before .before in
-    let i = at .loop .inv .1 (start .pre .1 .4) .inside in
-    search needs
+type-part-part-type-part-start t c = let at = c .before .before .before .before .before .before in let start = begun t at in let i = passed t at in search needs
 
 type-part-part-type-part-end : (t : ℕ) → type-part-lts.Need-part-type-part-end (claims t) (type-part-at t) type-part.Post type-part-Inv-loop type-part-μ-loop
-type-part-part-type-part-end t c =
-    let at = c .before .before .before .before .before .before in
-    let start = at .before .before .before .before .before .before .before .before .before .before .before .before .before in
-    let i = at .loop .inv .1 (start .pre .1 .4) .inside in
-    search needs
+type-part-part-type-part-end t c = let at = c .before .before .before .before .before .before in let start = begun t at in let i = passed t at in search needs
 
 type-part-type-part-requires : (t : ℕ) → type-part-lts.Need-type-part-requires (claims t) (type-part-at t) type-part.Post type-part-Inv-loop type-part-μ-loop
 type-part-type-part-requires t c κs =
     let at = c .before .before .before .before .before .before .before .before in
-    let start = at .before .before .before .before .before .before .before .before .before .before .before .before .before in
+    let start = begun t at in
     let n = c .before .before .before .before .enter .ensures in
     let x = start .pre .1 .4 in
     let w = at .loop .inv .1 x in
@@ -195,8 +203,7 @@ type-part-type-part-requires t c κs =
     let r = start .pre .1 .1 in
     let v = start .pre .1 .2 in
     let m = start .pre .1 .3 in
-    let z = at .before .before .before .before .before .before .before .before .if1 .left in
-    let b = at .before .before .before .before .before .before .before .before .before .budget-of .ensures in
+    let z = some-budget t at in
     let u = start .pre .0 in
     let near = w .near in
     let i = w .inside in
@@ -206,7 +213,7 @@ type-part-type-part-requires t c κs =
 type-part-add-refused : (t : ℕ) → type-part-lts.Need-add-refused (claims t) (type-part-at t) type-part.Post type-part-Inv-loop type-part-μ-loop
 type-part-add-refused t c =
     let at = c .before .before .before .before .before .before .before .before .before .before .before .before .before .before in
-    let start = at .before .before .before .before .before .before .before .before .before .before .before .before .before in
+    let start = begun t at in
     let n = c .before .before .before .before .before .before .before .before .before .before .enter .ensures in
     let x = start .pre .1 .4 in
     let w = at .loop .inv .1 x in
@@ -219,7 +226,7 @@ type-part-refused-requires-3 t c κs = search needs
 type-part-same-length-2 : (t : ℕ) → type-part-lts.Need-same-length-2 (claims t) (type-part-at t) type-part.Post type-part-Inv-loop type-part-μ-loop
 type-part-same-length-2 t c =
     let at = c .before .before .before .before .before .before .before .before .before .before .before .before .before .before .before in
-    let start = at .before .before .before .before .before .before .before .before .before .before .before .before .before in
+    let start = begun t at in
     let n = c .before .before .before .before .before .before .before .before .before .before .before .enter .ensures in
     let x = start .pre .1 .4 in
     let w = at .loop .inv .1 x in
@@ -228,14 +235,14 @@ type-part-same-length-2 t c =
 type-part-returns-4 : (t : ℕ) → type-part-lts.Need-returns-4 (claims t) (type-part-at t) type-part.Post type-part-Inv-loop type-part-μ-loop
 type-part-returns-4 t c =
     let at = c .before .before .before .before .before .before .before .before .before .before .before .before .before .before .before in
-    let start = at .before .before .before .before .before .before .before .before .before .before .before .before .before in
+    let start = begun t at in
     let n = c .before .before .before .before .before .before .before .before .before .before .before .enter .ensures in
-    λ x. walked-fails _ (start .pre .1 .0) x (at .loop .inv .1 x) (start .pre .1 .1) (n .0) (n .2) (rw (to-end (start .args .ws .now) (at .loop .next), n .1) at (c .before .before .before .before .before .before .type-part .ensures)) (ap (λ (w : ℕ). w / 256) (at .before .before .before .before .before .before .before .word-at .ensures)) (rw (at .before .before .before .before .before .before .before .word-at .ensures) at (sym (at .before .before .before .before .before .before .arity-of .ensures) ∙ at .before .before .before .before .n .given .1)) (c .before .before .before .before .before .before .before .before .before .before .before .before .before .before .loop-test .taken) (not-true _ (c .before .before .if3 .taken)) (c .refused3 .ensures)
+    λ x. walked-fails _ (start .pre .1 .0) x (at .loop .inv .1 x) (start .pre .1 .1) (n .0) (n .2) (rw (to-end (start .args .ws .now) (at .loop .next), n .1) at (c .before .before .before .before .before .before .type-part .ensures)) (head-is t at) (wants t at) (c .before .before .before .before .before .before .before .before .before .before .before .before .before .before .loop-test .taken) (not-true _ (c .before .before .if3 .taken)) (c .refused3 .ensures)
 
 type-part-gather-requires : (t : ℕ) → type-part-lts.Need-gather-requires (claims t) (type-part-at t) type-part.Post type-part-Inv-loop type-part-μ-loop
 type-part-gather-requires t c κs =
     let at = c .before .before .before .before .before .before .before .before .before .before .before .before .before .before .before in
-    let start = at .before .before .before .before .before .before .before .before .before .before .before .before .before in
+    let start = begun t at in
     let n = c .before .before .before .before .before .before .before .before .before .before .before .enter .ensures in
     let x = start .pre .1 .4 in
     let w = at .loop .inv .1 x in
@@ -243,8 +250,7 @@ type-part-gather-requires t c κs =
     let l = child-long _ (start .pre .1 .0) x w (start .pre .1 .1) (n .0) (n .2) (rw (to-end (start .args .ws .now) (at .loop .next), n .1) at (c .before .before .before .before .before .before .type-part .ensures)) in
     let r = start .pre .1 .1 in
     let u = free-at w .upTo in
-    let z = at .before .before .before .before .before .before .before .before .if1 .left in
-    let b = at .before .before .before .before .before .before .before .before .before .budget-of .ensures in
+    let z = some-budget t at in
     let near = w .near in
     let i = w .inside in
     (omega arith, omega arith, free-at w .small, f .settled (not-false _ (c .before .before .if3 .left)) .small)
@@ -255,7 +261,7 @@ type-part-larger-requires t c κs = search needs
 type-part-add-next : (t : ℕ) → type-part-lts.Need-add-next (claims t) (type-part-at t) type-part.Post type-part-Inv-loop type-part-μ-loop
 type-part-add-next t c =
     let at = c .before .before .before .before .before .before .before .before .before .before .before .before .before .before .before .before .before .before in
-    let start = at .before .before .before .before .before .before .before .before .before .before .before .before .before in
+    let start = begun t at in
     let n = c .before .before .before .before .before .before .before .before .before .before .before .before .before .before .enter .ensures in
     let x = start .pre .1 .4 in
     let w = at .loop .inv .1 x in
@@ -265,8 +271,8 @@ type-part-add-next t c =
 type-part-add-k : (t : ℕ) → type-part-lts.Need-add-k (claims t) (type-part-at t) type-part.Post type-part-Inv-loop type-part-μ-loop
 type-part-add-k t c =
     let at = c .before .before .before .before .before .before .before .before .before .before .before .before .before .before .before .before .before .before in
-    let start = at .before .before .before .before .before .before .before .before .before .before .before .before .before in
-    omega (arith, children-few _ _ (rw (at .before .before .before .before .before .before .before .word-at .ensures) at (sym (at .before .before .before .before .before .before .arity-of .ensures) ∙ at .before .before .before .before .n .given .1)))
+    let start = begun t at in
+    omega (arith, children-few _ _ (wants t at))
 
 type-part-loop-less : (t : ℕ) → type-part-lts.Need-loop-less (claims t) (type-part-at t) type-part.Post type-part-Inv-loop type-part-μ-loop
 type-part-loop-less t c = let u = c .before .before .before .before .before .before .before .before .before .before .before .before .before .before .before .before .before .loop-test .taken in omega arith
@@ -274,7 +280,7 @@ type-part-loop-less t c = let u = c .before .before .before .before .before .bef
 type-part-loop-again : (t : ℕ) → type-part-lts.Need-loop-again (claims t) (type-part-at t) type-part.Post type-part-Inv-loop type-part-μ-loop
 type-part-loop-again t c =
     let at = c .before .before .before .before .before .before .before .before .before .before .before .before .before .before .before .before .before .before in
-    let start = at .before .before .before .before .before .before .before .before .before .before .before .before .before in
+    let start = begun t at in
     let n = c .before .before .before .before .before .before .before .before .before .before .before .before .before .before .enter .ensures in
     let k = at .loop .inv .0 in
     let u = c .before .before .before .before .before .before .before .before .before .before .before .before .before .before .before .before .before .loop-test .taken in
@@ -289,21 +295,21 @@ type-part-refused-requires-4 t c κs = search needs
 type-part-same-length-3 : (t : ℕ) → type-part-lts.Need-same-length-3 (claims t) (type-part-at t) type-part.Post type-part-Inv-loop type-part-μ-loop
 type-part-same-length-3 t c =
     let at = c .before .before .before .before in
-    let start = at .before .before .before .before .before .before .before .before .before .before .before .before .before in
+    let start = begun t at in
     at .loop .inv .1 (start .pre .1 .4) .kept .long
 
 type-part-returns-5 : (t : ℕ) → type-part-lts.Need-returns-5 (claims t) (type-part-at t) type-part.Post type-part-Inv-loop type-part-μ-loop
 type-part-returns-5 t c =
     let at = c .before .before .before .before in
-    let start = at .before .before .before .before .before .before .before .before .before .before .before .before .before in
+    let start = begun t at in
     let k = at .loop .inv .0 in
     let e = c .before .before .before .loop-test .left in
-    λ x. walked-ninth (at .loop .inv .1 x) (rw (at .before .before .before .before .before .before .before .word-at .ensures) at (sym (at .before .before .before .before .before .before .arity-of .ensures) ∙ at .before .before .before .before .n .given .1)) (omega arith) (ap (λ (w : ℕ). w / 256) (at .before .before .before .before .before .before .before .word-at .ensures)) (x .long) (c .before .before .is-ninth .ensures) (c .before .if4 .taken) (c .refused4 .ensures)
+    λ x. walked-ninth (at .loop .inv .1 x) (wants t at) (omega arith) (head-is t at) (x .long) (c .before .before .is-ninth .ensures) (c .before .if4 .taken) (c .refused4 .ensures)
 
 type-part-add-settled : (t : ℕ) → type-part-lts.Need-add-settled (claims t) (type-part-at t) type-part.Post type-part-Inv-loop type-part-μ-loop
 type-part-add-settled t c =
     let at = c .before .before .before in
-    let start = at .before .before .before .before .before .before .before .before .before .before .before .before .before in
+    let start = begun t at in
     let s = at .loop .inv .1 (start .pre .1 .4) .shallow in
     let u = start .pre .1 .3 in
     search needs
@@ -311,13 +317,12 @@ type-part-add-settled t c =
 type-part-conclude-requires : (t : ℕ) → type-part-lts.Need-conclude-requires (claims t) (type-part-at t) type-part.Post type-part-Inv-loop type-part-μ-loop
 type-part-conclude-requires t c κs =
     let at = c .before .before .before .before in
-    let start = at .before .before .before .before .before .before .before .before .before .before .before .before .before in
+    let start = begun t at in
     let x = start .pre .1 .4 in
     let w = at .loop .inv .1 x in
     let r = start .pre .1 .1 in
     let l = w .kept .long in
-    let z = at .before .before .before .before .before .before .before .before .if1 .left in
-    let b = at .before .before .before .before .before .before .before .before .before .budget-of .ensures in
+    let z = some-budget t at in
     let n = at .before .before .if2 .left in
     let k = at .loop .inv .0 in
     let e = c .before .before .before .loop-test .left in
@@ -332,17 +337,17 @@ type-part-settled-requires-2 t c κs = search needs
 type-part-same-length-4 : (t : ℕ) → type-part-lts.Need-same-length-4 (claims t) (type-part-at t) type-part.Post type-part-Inv-loop type-part-μ-loop
 type-part-same-length-4 t c =
     let at = c .before .before .before .before .before .before .before .before in
-    let start = at .before .before .before .before .before .before .before .before .before .before .before .before .before in
+    let start = begun t at in
     let l = at .loop .inv .1 (start .pre .1 .4) .kept .long in
     search needs
 
 type-part-returns-6 : (t : ℕ) → type-part-lts.Need-returns-6 (claims t) (type-part-at t) type-part.Post type-part-Inv-loop type-part-μ-loop
 type-part-returns-6 t c =
     let at = c .before .before .before .before .before .before .before .before in
-    let start = at .before .before .before .before .before .before .before .before .before .before .before .before .before in
+    let start = begun t at in
     let k = at .loop .inv .0 in
     let e = c .before .before .before .before .before .before .before .loop-test .left in
-    λ x. walked-all (at .loop .inv .1 x) (rw (at .before .before .before .before .before .before .before .word-at .ensures) at (sym (at .before .before .before .before .before .before .arity-of .ensures) ∙ at .before .before .before .before .n .given .1)) (omega arith) (ap (λ (w : ℕ). w / 256) (at .before .before .before .before .before .before .before .word-at .ensures)) (x .long) (c .before .before .before .before .before .before .is-ninth .ensures) (c .before .before .before .before .before .if4 .left) (at .before .before .if2 .left) (c .before .before .before .conclude .ensures) (c .settled2 .ensures)
+    λ x. walked-all (at .loop .inv .1 x) (wants t at) (omega arith) (head-is t at) (x .long) (c .before .before .before .before .before .before .is-ninth .ensures) (c .before .before .before .before .before .if4 .left) (at .before .before .if2 .left) (c .before .before .before .conclude .ensures) (c .settled2 .ensures)
 
 pub +type-part-spec : {M : Type 1} → statement M
 +type-part-spec = close μ-type-part λ t. type-part-lts.spec (claims t)

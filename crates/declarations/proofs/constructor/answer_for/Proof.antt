@@ -2,12 +2,12 @@
 use mathlib.Core.Path.{sym, _∙_}
 use borrow.Author.Tests.{eq-eqb, ne-eqb, not-true, not-false}
 use borrow.Author.Needs.{needs}
-use Rattle.declarations.specs.Put.{room}
-use Rattle.declarations.proofs.constructor.room_for.Statement.{statement}
-use Rattle.declarations.proofs.constructor.room_for.Tie as tie
+use Rattle.declarations.specs.Put.{room, answer}
+use Rattle.declarations.proofs.constructor.answer_for.Statement.{statement}
+use Rattle.declarations.proofs.constructor.answer_for.Tie as tie
 
 returns : tie.Need-returns
-unfolding room
+unfolding answer room
 returns c = rw (ne-eqb _ _ (c .if1 .taken))
 
 shared-slice-read-are-counts : tie.Need-shared-slice-read-are-counts
@@ -23,7 +23,7 @@ are-counts-requires : tie.Need-are-counts-requires
 are-counts-requires c κs = search needs
 
 returns-2 : tie.Need-returns-2
-unfolding room
+unfolding answer room
 returns-2 c = rw (eq-eqb _ _ (c .before .before .before .before .before .if1 .left), sym (c .before .are-counts .ensures) ∙ not-true _ (c .if2 .taken))
 
 mul-if3 : tie.Need-mul-if3
@@ -33,15 +33,19 @@ shared-slice-read-if3 : tie.Need-shared-slice-read-if3
 shared-slice-read-if3 c = search needs
 
 returns-3 : tie.Need-returns-3
-unfolding room
+unfolding answer room
 returns-3 c = rw (eq-eqb _ _ (c .before .before .before .before .before .before .before .if1 .left), sym (c .before .before .before .are-counts .ensures) ∙ not-false _ (c .before .before .if2 .left), eq-eqb _ _ (c .if3 .taken))
 
 returns-4 : tie.Need-returns-4
-unfolding room
-returns-4 c = rw (eq-eqb _ _ (c .before .before .before .before .before .before .before .if1 .left), sym (c .before .before .before .are-counts .ensures) ∙ not-false _ (c .before .before .if2 .left), ne-eqb _ _ (c .if3 .left))
+unfolding answer room
+returns-4 c = rw (eq-eqb _ _ (c .before .before .before .before .before .before .before .before .if1 .left), sym (c .before .before .before .before .are-counts .ensures) ∙ not-false _ (c .before .before .before .if2 .left), ne-eqb _ _ (c .before .if3 .left), c .if4 .taken)
 
-pub room-for-spec : {M : Type 1} → statement M
-room-for-spec =
+returns-5 : tie.Need-returns-5
+unfolding answer room
+returns-5 c = rw (eq-eqb _ _ (c .before .before .before .before .before .before .before .before .if1 .left), sym (c .before .before .before .before .are-counts .ensures) ∙ not-false _ (c .before .before .before .if2 .left), ne-eqb _ _ (c .before .if3 .left), c .if4 .left)
+
+pub answer-for-spec : {M : Type 1} → statement M
+answer-for-spec =
     tie.close
     (tie.spec
     returns
@@ -53,4 +57,5 @@ room-for-spec =
     mul-if3
     shared-slice-read-if3
     returns-3
-    returns-4)
+    returns-4
+    returns-5)

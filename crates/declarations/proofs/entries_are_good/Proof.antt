@@ -6,33 +6,36 @@ use native.Mathlib.Omega.{arith}
 use borrow.Author.Count.{below-none, below-more}
 use borrow.Author.Tests.{not-true, not-false}
 use borrow.Author.Needs.{needs}
-use Rattle.declarations.specs.Declarations.{goodVariable}
+use Rattle.declarations.specs.Declarations.{goodEntry}
 use Rattle.words.proofs.Listed.{allUpTo-all, allUpTo-fails}
-use Rattle.declarations.proofs.variables_are_good.Statement.{statement}
-use Rattle.declarations.proofs.variables_are_good.Tie as tie
+use Rattle.declarations.proofs.entries_are_good.Statement.{statement}
+use Rattle.declarations.proofs.entries_are_good.Tie as tie
 
 abbrev Inv-loop : tie.InvT-loop
-Inv-loop ds n a₀ a = (a ≤ n) × ((k : ℕ) → k < a → goodVariable ds k ≡ true)
+Inv-loop ds k n a₀ a = (a ≤ n) × ((b : ℕ) → b < a → goodEntry ds k b ≡ true)
 
 abbrev μ-loop : tie.MeasureT-loop
-μ-loop ds n a₀ a = n - a
+μ-loop ds k n a₀ a = n - a
+
+mul-n : tie.Need-mul-n Inv-loop μ-loop
+mul-n c = search needs
 
 shared-slice-read-n : tie.Need-shared-slice-read-n Inv-loop μ-loop
 shared-slice-read-n c = search needs
 
 cast-n : tie.Need-cast-n Inv-loop μ-loop
-cast-n c = omega (arith, c .shared-slice-known2 .given 2)
+cast-n c = omega (arith, c .shared-slice-known2 .given (c .before .before .args .k))
 
 loop-holds : tie.Need-loop-holds Inv-loop μ-loop
 loop-holds c = (omega arith, below-none _)
 
-variable-is-good-requires : tie.Need-variable-is-good-requires Inv-loop μ-loop
-variable-is-good-requires c κs = search needs
+entry-is-good-requires : tie.Need-entry-is-good-requires Inv-loop μ-loop
+entry-is-good-requires c κs = search needs
 
 returns : tie.Need-returns Inv-loop μ-loop
 returns c =
     let a = c .before .before .before .loop .a in
-    sym (allUpTo-fails _ _ a (omega arith) (sym (c .before .variable-is-good .ensures) ∙ not-true _ (c .if1 .taken)))
+    sym (allUpTo-fails _ _ a (omega arith) (sym (c .before .entry-is-good .ensures) ∙ not-true _ (c .if1 .taken)))
 
 add-a : tie.Need-add-a Inv-loop μ-loop
 add-a c = search needs
@@ -41,23 +44,24 @@ loop-less : tie.Need-loop-less Inv-loop μ-loop
 loop-less c = search needs
 
 loop-again : tie.Need-loop-again Inv-loop μ-loop
-loop-again c = (omega arith, below-more _ _ (c .before .before .before .loop .inv .1) (sym (c .before .variable-is-good .ensures) ∙ not-false _ (c .if1 .left)))
+loop-again c = (omega arith, below-more _ _ (c .before .before .before .loop .inv .1) (sym (c .before .entry-is-good .ensures) ∙ not-false _ (c .if1 .left)))
 
 returns-2 : tie.Need-returns-2 Inv-loop μ-loop
 returns-2 c =
     let all = c .before .loop .inv .1 in
     sym (allUpTo-all _ _ λ a h. all a (omega arith))
 
-pub variables-are-good-spec : {M : Type 1} → statement M
-variables-are-good-spec =
+pub entries-are-good-spec : {M : Type 1} → statement M
+entries-are-good-spec =
     tie.close
     (tie.spec
     Inv-loop
     μ-loop
+    mul-n
     shared-slice-read-n
     cast-n
     loop-holds
-    variable-is-good-requires
+    entry-is-good-requires
     returns
     add-a
     loop-less
