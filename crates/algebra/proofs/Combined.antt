@@ -3,7 +3,7 @@ use mathlib.Core.Path.{_≡_, refl, sym, _∙_, ap}
 use Prim.Native.Nat.{ℕ, _+_, _*_, _<_}
 use lib.Arith.{digits-div, digits-mod}
 use Rattle.algebra.specs.Semirings.{Arithmetic, StarSemiring}
-use Rattle.algebra.specs.Matrices.{Matrix, _≈_, Shape, number, kronecker-delta, zeros, unit-column, unit-row, scalar as scalar-matrix, scale, mul, adjoint, kronecker}
+use Rattle.algebra.specs.Matrices.{Matrix, _≈_, HasShape, number, kronecker-delta, zeros, unit-column, unit-row, scalar as scalar-matrix, scale, mul, adjoint, kronecker}
 use Rattle.algebra.proofs.Deltas as Deltas
 use Rattle.algebra.proofs.Alike.{≈-refl, ≈-sym, ≈-trans, ≡→≈, scale-≈, mul-≈, adjoint-≈, kronecker-≈}
 use Rattle.algebra.proofs.Linear as Linear
@@ -40,14 +40,14 @@ module _ {R : Type 0} {𝓐 : Arithmetic R} (𝓡 : StarSemiring 𝓐) where
   scalar-≈ e = ≡→≈ (ap (scalar-matrix 𝓐) e)
 
   -- a number is the 1 by 1 matrix that holds it
-  pub scalar-is : (A : Matrix R) {x : R} → Shape A 1 1 → x ≡ number A → scalar-matrix 𝓐 x ≈ A
+  pub scalar-is : (A : Matrix R) {x : R} → HasShape A 1 1 → x ≡ number A → scalar-matrix 𝓐 x ≈ A
   scalar-is A a e = ≈-trans (scalar-≈ e) (≈-sym (Scalars.scalar-number 𝓡 A (a .rows) (a .columns)))
 
   -- scaled by the number that 5 stands for
   pub scale-0 : (A : Matrix R) {m n : ℕ} → A .rows ≡ m → A .columns ≡ n → scale 𝓐 (number (scalar-matrix 𝓐 𝟘)) A ≈ zeros 𝓐 m n
   scale-0 A e f = ≈-trans (scale-≈ 𝓐 (number-scalar 𝟘) (≈-refl A)) (≈-trans (Linear.scale-zero 𝓡 A) (zeros-≈ e f))
 
-  pub adjoint-number : (A : Matrix R) → Shape A 1 1 → adjoint 𝓐 A ≈ scalar-matrix 𝓐 (conj (number A))
+  pub adjoint-number : (A : Matrix R) → HasShape A 1 1 → adjoint 𝓐 A ≈ scalar-matrix 𝓐 (conj (number A))
   adjoint-number A a = ≈-trans (adjoint-≈ 𝓐 (≈-sym (scalar-is A a refl))) (Scalars.adjoint-scalar 𝓡 _)
 
   -- what 8:2 of two scalars stands for
@@ -57,10 +57,10 @@ module _ {R : Type 0} {𝓐 : Arithmetic R} (𝓡 : StarSemiring 𝓐) where
   pub number-both : (A B : Matrix R) → number A ⊙ number B ≡ number (both A B)
   number-both A B = cc (number-scalar (number A ⊙ (number B ⊙ 𝟙)), 𝓡 .mul-one (number B))
 
-  pub scale-both : (A B : Matrix R) → Shape B 1 1 → scale 𝓐 (number A) B ≈ both A B
+  pub scale-both : (A B : Matrix R) → HasShape B 1 1 → scale 𝓐 (number A) B ≈ both A B
   scale-both A B b = ≈-trans (scale-≈ 𝓐 refl (≈-sym (scalar-is B b (𝓡 .mul-one (number B))))) (Scalars.scale-scalar 𝓡 _ _)
 
-  pub kronecker-both : (A B : Matrix R) → Shape A 1 1 → Shape B 1 1 → kronecker 𝓐 A B ≈ both A B
+  pub kronecker-both : (A B : Matrix R) → HasShape A 1 1 → HasShape B 1 1 → kronecker 𝓐 A B ≈ both A B
   kronecker-both A B a b =
       ≈-trans (kronecker-≈ 𝓐 (≈-sym (scalar-is A a refl)) (≈-refl B)) (≈-trans (Scalars.scalar-kronecker 𝓡 _ B) (scale-both A B b))
 

@@ -3,7 +3,7 @@ use mathlib.Core.Path.{refl, sym, _∙_, ap}
 use Prim.Native.Nat.{ℕ, _≤_, _<_}
 use Rattle.algebra.specs.Semirings.{Arithmetic, StarSemiring}
 use Rattle.algebra.specs.Sums.{sum}
-use Rattle.algebra.specs.Matrices.{Matrix, _≈_, Shape, kronecker-delta, identity, unit-column, unit-row, scalar, add, mul, sum-matrices}
+use Rattle.algebra.specs.Matrices.{Matrix, _≈_, HasShape, kronecker-delta, identity, unit-column, unit-row, scalar, add, mul, sum-matrices}
 use Rattle.algebra.proofs.Semirings as S
 use Rattle.algebra.proofs.Sums.{sum-ext, sum-zero, sum-add, sum-single}
 use Rattle.algebra.proofs.Deltas.{delta-same, delta-differ, delta-sym}
@@ -13,7 +13,7 @@ use Rattle.algebra.proofs.Products.{pick}
 
 module _ {R : Type 0} (𝓐 : Arithmetic R) where
   -- in range of the first is in range of each, since they are of one shape
-  pub sum-matrices-≈ : {n r c : ℕ} {f g : ℕ → Matrix R} → 1 ≤ n → ((k : ℕ) → k < n → Shape (f k) r c) → ((k : ℕ) → k < n → f k ≈ g k)
+  pub sum-matrices-≈ : {n r c : ℕ} {f g : ℕ → Matrix R} → 1 ≤ n → ((k : ℕ) → k < n → HasShape (f k) r c) → ((k : ℕ) → k < n → f k ≈ g k)
       → sum-matrices 𝓐 n f ≈ sum-matrices 𝓐 n g
   unfolding sum-matrices
   sum-matrices-≈ {n} h s p =

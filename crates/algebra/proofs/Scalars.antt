@@ -1,7 +1,7 @@
 -- Numbers as 1 by 1 matrices: a factor of one row or column scales.
 use mathlib.Core.Path.{_≡_, refl, sym, _∙_}
 use Prim.Native.Nat.{ℕ, _<_}
-use native.Mathlib.Nat.{one-mul, mul-one, div-one, mod-eq-of-lt}
+use native.Mathlib.Nat.{one-mul, mod-eq-of-lt}
 use native.Mathlib.Omega.{arith}
 use Rattle.algebra.specs.Semirings.{Arithmetic, StarSemiring}
 use Rattle.algebra.specs.Sums.{sum}
@@ -34,10 +34,6 @@ module _ {R : Type 0} {𝓐 : Arithmetic R} (𝓡 : StarSemiring 𝓐) where
         columns = refl;
         entries = λ i j h k. let a : i ≡ 0 = omega arith in let b : j ≡ 0 = omega arith in rw (a, b) (delta-same 𝓡 0);
       }
-
-  pub scalar-add : (x y : R) → add 𝓐 (scalar 𝓐 x) (scalar 𝓐 y) ≈ scalar 𝓐 (x ⊕ y)
-  unfolding add scalar
-  scalar-add x y = everywhere refl refl λ i j. refl
 
   pub scale-scalar : (x y : R) → scale 𝓐 x (scalar 𝓐 y) ≈ scalar 𝓐 (x ⊙ y)
   unfolding scale scalar
@@ -77,11 +73,6 @@ module _ {R : Type 0} {𝓐 : Arithmetic R} (𝓡 : StarSemiring 𝓐) where
             let b : j < A .columns = omega arith in
             cc (mod-eq-of-lt a, mod-eq-of-lt b);
       }
-
-  pub kronecker-scalar : (A : Matrix R) (x : R) → kronecker 𝓐 A (scalar 𝓐 x) ≈ scale 𝓐 x A
-  unfolding kronecker scalar scale
-  kronecker-scalar A x =
-      everywhere (mul-one (A .rows)) (mul-one (A .columns)) λ i j. cc (div-one i, div-one j, 𝓡 .mul-comm (A .entry i j) x)
 
   -- ---- outer and inner products: (K B) K′ = (B K′) K, and B (K B′) = (B K) B′
   pub outer-mul : (K B K′ : Matrix R) → K .columns ≡ 1 → B .rows ≡ 1 → K′ .columns ≡ 1 → mul 𝓐 (mul 𝓐 K B) K′ ≈ scale 𝓐 (number (mul 𝓐 B K′)) K

@@ -20,7 +20,7 @@ pub record _≈_ {R : Type 0} (A B : Matrix R) : Type 0 where
   pub entries : (i j : ℕ) → i < A .rows → j < A .columns → A .entry i j ≡ B .entry i j
 
 -- of such a shape
-pub record Shape {R : Type 0} (A : Matrix R) (m n : ℕ) : Type 0 where
+pub record HasShape {R : Type 0} (A : Matrix R) (m n : ℕ) : Type 0 where
   pub rows : A .rows ≡ m
   pub columns : A .columns ≡ n
 

@@ -32,7 +32,8 @@ module _ {M : Type 1} (𝓤 : URA M) (H : Heap 𝓤) (A : Atoms 𝓤) (T : Ended
   abbrev R : RattleType
   R = typeAt (T .signature .result) (x .0)
 
-module _ {M : Type 1} {𝓤 : URA M} {H : Heap 𝓤} {A : Atoms 𝓤} {K : Type 0} {W : Given 𝓤 H A} {Γ : List (Item 𝓤)} {E : Env 𝓤 H} {C : Calls 𝓤 H} {Λ : Loops 𝓤 H} {p : Post 𝓤 H} {f : Name} {xs : List Operand} {l : Place} {rest : Body} {i : Item 𝓤} where
+module _ {M : Type 1} {𝓤 : URA M} {H : Heap 𝓤} {A : Atoms 𝓤} {K : Type 0} {W : Given 𝓤 H A} {Γ : List (Item 𝓤)} {E : Env 𝓤 H} {C : Calls 𝓤 H} {Λ : Loops 𝓤 H} {p : Post 𝓤 H} {f : Name}
+    {xs : List Operand} {l : Place} {rest : Body} {i : Item 𝓤} where
   -- the callee is entered with i: the tokens, and what the parameters own. The result is d, whose machine value is v
   pub answers : K → FmC 𝓤 H (W .laws) C → (T : Ended) (c : Clauses 𝓤 T) → Triple 𝓤 (C f) (tripleOf 𝓤 H A (T .signature) (closing 𝓤 H A T c))
       → (x : Bound 𝓤 H A (T .signature)) (g : c (x .0) (x .3) .ghost) → ent 𝓤 (mean 𝓤 H A i) (onEntry 𝓤 H A (T .signature) (x .0) (x .1) (x .3) (x .4)) → ent 𝓤 (emp 𝓤) (c (x .0) (x .3) .requires g)

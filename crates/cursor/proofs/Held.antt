@@ -73,6 +73,7 @@ module _ {M : Type 1} {𝓤 : URA M} {H : Heap 𝓤} {A : Atoms 𝓤} {K : Type 
   pub lends : K → (κ : Lft) (r : Reader) → Step K W (‵ (OwnSlice κ (r .bytes)) ∷ ‵ (Own κ r) ∷ Γ) G (‵ (Own κ r) ∷ Γ) G
   lends t κ r = step (λ s.
       use1 W (‵ (Own κ r) ⊛ ‵ (Own κ r)) (LL.copy (D (κ, tt)) (T′.the-copy (namedLft 1 0 tt (κ, tt))) 𝓤 H A W .twice r (T′.lowered r ∷ [])) $ split t $
-      use1 W (given (T′.lowered r ∷ [] ≡ T′.lowered r ∷ []) (‵ (all-own (D (κ, tt) .parts) (L (κ, tt)) (fieldsOf κ r)))) (own-open 𝓤 H A W (D (κ, tt)) (L (κ, tt)) (fieldsOf κ r) (T′.lowered r)) $ learn t (λ _. fsplit t $
+      use1 W (given (T′.lowered r ∷ [] ≡ T′.lowered r ∷ []) (‵ (all-own (D (κ, tt) .parts) (L (κ, tt)) (fieldsOf κ r))))
+      (own-open 𝓤 H A W (D (κ, tt)) (L (κ, tt)) (fieldsOf κ r) (T′.lowered r)) $ learn t (λ _. fsplit t $
       -- [what bytes owns; what at owns; what the struct owns]
       move t (1 ∷ []) $ drop t $ s))

@@ -4,14 +4,13 @@ use mathlib.Core.Logic.{_≢_}
 use mathlib.Core.Bool.{Bool, true, false, cond, _&&_, not, and-true, and-false, and-eq-true-iff}
 use mathlib.Core.List.{List, [], _∷_, _++_}
 use Prim.Native.Nat.{ℕ, zero, suc, _+_, _/_, _%_, _≤_, _<_}
-use native.Mathlib.Numerals.{add-one}
 use native.Mathlib.Omega.{arith}
 use borrow.Author.Tests.{eq-eqb, ne-eqb, ltb-true, leb-true, eqb-true}
 use lib.Dec.{ltb, leb, eqb}
-use lib.ListN.{length, take, drop, getD, drop-of-length-le, length-append}
-use lib.Seq.{drop-cons, take-length}
-use Rattle.words.specs.Listed.{allUpTo}
-use Rattle.words.proofs.Listed.{upTo-some, length-upTo, allUpTo-at}
+use lib.ListN.{length, take, drop, getD, length-append}
+use lib.Seq.{take-length}
+use Rattle.words.specs.Listed.{allUpTo, all}
+use Rattle.words.proofs.Listed.{upTo-some, length-upTo, allUpTo-at, all-++}
 use Rattle.term.specs.Heads.{Label, type-name, index-product, labelled, word, heads, reading, read}
 use Rattle.term.specs.Trees.{Tree, Forest, node, none, _▹_, count, _⧺_, words, words*, Formed, Formed*}
 use Rattle.term.specs.Parts.{parse, first, part, treeIn}
@@ -20,22 +19,10 @@ use Rattle.term.proofs.Parsing.{accepted, parse-node}
 use Rattle.term.proofs.Scan.{part-front}
 use Rattle.types.specs.Sorts.{scalar, ket, bra, operator, index, IsType, Context, countsOf, Short}
 use Rattle.types.specs.Rules.{_⊢_∶_, type-var, base-prod, Index, Proper, WellFormed}
-use Rattle.declarations.specs.Declarations.{size, counted, indexWord, indexWords, indexIn, typeIn, basisAt, variableAt, basisIn, variableIn, contextIn, namesIn, goodIndex, isIndex, isVariable, goodBasis, goodVariable, goodDeclarations}
+use Rattle.declarations.specs.Declarations.{size, counted, indexWord, indexWords, indexIn, typeIn, basisAt, variableAt, basisIn, variableIn, contextIn, namesIn, goodIndex, isIndex}
+use Rattle.declarations.specs.Declarations.{isVariable, goodBasis, goodVariable, goodDeclarations}
 
--- ---- the words of an index, one after the other
-module _ (N : ℕ) (ws : List ℕ) (i : ℕ) where
-  pub index-more : i < length ws → indexWord N (getD ws i 0) ≡ true → indexWords N (drop i ws) ≡ indexWords N (drop (i + 1) ws)
-  unfolding indexWords
-  index-more h e = rw (add-one, drop-cons ws i 0 h, e)
-
-  pub index-fails : i < length ws → indexWord N (getD ws i 0) ≡ false → indexWords N (drop i ws) ≡ false
-  unfolding indexWords
-  index-fails h e = rw (drop-cons ws i 0 h, e)
-
-  pub index-end : length ws ≤ i → indexWords N (drop i ws) ≡ true
-  unfolding indexWords
-  index-end h = rw (drop-of-length-le ws h)
-
+-- ---- the words of an index
 -- one word is an index where it may stand in one and is no product, which wants more
 name-part : (w : ℕ) → w / 256 ≡ 1 → length (part (w ∷ []) 0) ≡ 1
 unfolding part first words read heads reading count parse _⧺_
@@ -46,7 +33,7 @@ unfolding part first parse read heads reading
 product-part = refl
 
 one-word : (N w : ℕ) → isIndex N (w ∷ []) ≡ cond (eqb w 512) false (indexWord N w)
-unfolding isIndex indexWords indexWord
+unfolding isIndex all indexWord
 one-word N w = go (eqb w 512) refl (eqb (w / 256) 1) refl
   where
     go : (b : Bool) → eqb w 512 ≡ b → (c : Bool) → eqb (w / 256) 1 ≡ c → isIndex N (w ∷ []) ≡ cond b false (indexWord N w)
@@ -172,17 +159,9 @@ index-node : (Γ : Context) {l : Label} {n : ℕ} {cs : Forest} → IndexNode (�
 index-node Γ (is-type h) no-more s = type-var h
 index-node Γ is-product (one-more a (one-more b no-more)) s = base-prod a b s
 
-index-++ : (N : ℕ) (vs ws : List ℕ) → indexWords N (vs ++ ws) ≡ true → (indexWords N vs ≡ true) × (indexWords N ws ≡ true)
-unfolding indexWords
-index-++ N [] ws e = (refl, e)
-index-++ N (v ∷ vs) ws e =
-    let p = and-eq-true-iff (indexWord N v) _ .0 e in
-    let q = index-++ N vs ws (p .1) in
-    (and-eq-true-iff (indexWord N v) _ .1 (p .0, q .0), q .1)
-
 module _ (Γ : Context) where
   mutual
-    unfolding words count Formed indexWords indexWord
+    unfolding words count Formed all indexWord
 
     index-tree : (t : Tree) → Formed t → Short t → indexWords (Γ .types) (words t) ≡ true → Γ ⊢ t ∶ index t
     index-tree (node l cs) h s e =
@@ -192,7 +171,7 @@ module _ (Γ : Context) where
     index-forest : (f : Forest) → Formed* f → length (words* f) ≤ maxIndex → indexWords (Γ .types) (words* f) ≡ true → Indices Γ (count f) f
     index-forest none h s e = no-more
     index-forest (t ▹ f) h s e =
-        let p = index-++ (Γ .types) (words t) (words* f) e in
+        let p = and-eq-true-iff (indexWords (Γ .types) (words t)) _ .0 (rw all-++ at e) in
         let l = length-append (words t) (words* f) in
         one-more (index-tree t (h .0) (omega arith) (p .0)) (index-forest f (h .1) (omega arith) (p .1))
 

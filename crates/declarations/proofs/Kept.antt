@@ -67,7 +67,7 @@ variable-same n m s t x y h = record {
 }
 
 -- ---- declarations that keep the types and the entries of others, and count n bases and m variables
-pub record Kept (ds out : List ℕ) (n m : ℕ) : Type 0 where
+pub record EntriesKept (ds out : List ℕ) (n m : ℕ) : Type 0 where
   pub long : length out ≡ length ds
   pub types : getD out 0 0 ≡ getD ds 0 0
   pub bases : getD out 1 0 ≡ n
@@ -80,7 +80,7 @@ unfolding goodDeclarations
 declarations-good ds g =
     rw (eq-eqb _ _ (g .long), le-leb _ _ (g .types), le-leb _ _ (g .bases), le-leb _ _ (g .variables), allUpTo-all _ _ (g .basis)) (allUpTo-all _ _ (g .variable))
 
-module _ {ds out : List ℕ} {n m : ℕ} (e : goodDeclarations ds ≡ true) (k : Kept ds out n m) where
+module _ {ds out : List ℕ} {n m : ℕ} (e : goodDeclarations ds ≡ true) (k : EntriesKept ds out n m) where
   basis-held : (b : ℕ) → b < getD ds 1 0 → BasisHas out b (basisLen ds b) (basisWords ds b)
   basis-held b h = let g = basis-good ds b (e, h) in basis-same (basisLen ds b) (k .basis b h) refl (omega (arith, g .few))
 
@@ -134,7 +134,7 @@ module _ (ds index : List ℕ) (e : goodDeclarations ds ≡ true) (r : room ds 1
       (sets-apart (length index ∷ index) (numbered ds 1) (basisAt a) (omega arith) (omega arith) y)
       (sets-apart ((a + 1) ∷ []) ds 1 (omega arith) (omega arith) x)
 
-  pub basis-put-kept : Kept ds (basisPut ds index) (a + 1) (getD ds 2 0)
+  pub basis-put-kept : EntriesKept ds (basisPut ds index) (a + 1) (getD ds 2 0)
   unfolding basisPut
   basis-put-kept =
       let h = room-done ds 1 r in
@@ -189,7 +189,7 @@ module _ (ds : List ℕ) (kind : ℕ) (xs ys : List ℕ) (e : goodDeclarations d
       (sets-apart entry (numbered ds 2) (variableAt v) (omega arith) (omega arith) y)
       (sets-apart ((v + 1) ∷ []) ds 2 (omega arith) (omega arith) x))
 
-  pub variable-put-kept : Kept ds out (getD ds 1 0) (v + 1)
+  pub variable-put-kept : EntriesKept ds out (getD ds 1 0) (v + 1)
   unfolding variablePut
   variable-put-kept =
       let h = room-done ds 2 r in

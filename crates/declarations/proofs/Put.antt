@@ -56,13 +56,18 @@ room-done ds k h =
     let q = counts (getD ds 0 0) (getD ds 1 0) (getD ds 2 0) (p .1) in
     (eqb-true _ _ (p .0), q .1, q .2, eqb-false _ _ (p .2))
 
-pub answer-done : (r : Put) (fits : Bool) → answer r fits ≡ Done → (r ≡ Done) × (fits ≡ true)
+answer-done : (r : Put) (fits : Bool) → answer r fits ≡ Done → (r ≡ Done) × (fits ≡ true)
 unfolding answer
 answer-done Done true h = (refl, refl)
 answer-done Done false h = absurd (let z : _≡_ {A = ℕ} 0 1 = cc in omega arith)
 answer-done WrongSize fits h = absurd (let z : _≡_ {A = ℕ} 0 1 = cc in omega arith)
 answer-done Full fits h = absurd (let z : _≡_ {A = ℕ} 0 1 = cc in omega arith)
 answer-done Bad fits h = absurd (let z : _≡_ {A = ℕ} 0 1 = cc in omega arith)
+
+-- a done put, from what its two calls answered: of the room, and of whether what is put fits
+pub put-done : (ds : List ℕ) (k : ℕ) {r : Put} {fits b : Bool} → r ≡ answer (room ds k) fits → fits ≡ b → r ≡ Done
+    → ((length ds ≡ size) × (getD ds 1 0 ≤ maxNames) × (getD ds 2 0 ≤ maxNames) × (getD ds k 0 ≢ maxNames)) × (b ≡ true)
+put-done ds k a f e = let p = answer-done _ _ (sym a ∙ e) in (room-done ds k (p .0), sym f ∙ p .1)
 
 -- any other answer leaves the words
 pub not-done : (r : Put) (made ds : List ℕ) → OneOf (1 ∷ 2 ∷ 3 ∷ []) (tagOf the-type r) → ds ≡ leaves r made ds

@@ -6,12 +6,12 @@
 --     from 2051          32 entries of 129 words, one for each variable: its kind (0 scalar, 1 ket, 2 bra, 3 operator), the lengths of its two indices, then 63
 --                        words for each. A scalar has no index, a ket or a bra has its index as the first, an operator its rows' and its columns'
 -- Words that no entry's length takes in are not looked at.
-use mathlib.Core.Bool.{Bool, true, cond, _&&_}
-use mathlib.Core.List.{List, [], _∷_}
+use mathlib.Core.Bool.{Bool, cond, _&&_}
+use mathlib.Core.List.{List, []}
 use Prim.Native.Nat.{ℕ, _+_, _*_, _/_, _%_}
 use lib.Dec.{eqb, leb, ltb}
 use lib.ListN.{length, getD, take, drop}
-use Rattle.words.specs.Listed.{upTo, allUpTo}
+use Rattle.words.specs.Listed.{upTo, allUpTo, all}
 use Rattle.term.specs.declared.terms.Names.{Names}
 use Rattle.term.specs.Trees.{Tree}
 use Rattle.term.specs.Parts.{parse, part, treeIn}
@@ -60,14 +60,12 @@ contextAt ds bs = inBodies bs (contextIn ds)
 unfoldable pub indexWord : ℕ → ℕ → Bool
 indexWord N w = cond (eqb (w / 256) 1) (ltb (w % 256) N) (eqb w 512)
 
-unfoldable pub indexWords : ℕ → List ℕ → Bool
-unfolding indexWord
-indexWords N [] = true
-indexWords N (w ∷ ws) = indexWord N w && indexWords N ws
+abbrev pub indexWords : ℕ → List ℕ → Bool
+indexWords N ws = all (indexWord N) ws
 
 -- words that are exactly one index
 unfoldable pub isIndex : ℕ → List ℕ → Bool
-unfolding indexWords part
+unfolding indexWord all part
 isIndex N ws =
     ltb 0 (length ws) && (leb (length ws) maxIndex && (eqb (length (part ws 0)) (length ws) && indexWords N ws))
 
@@ -94,10 +92,6 @@ goodVariable ds a =
     leb n maxIndex
     && (leb m maxIndex
     && isVariable (getD ds 0 0) (getD ds at 0) (take n (drop (at + 3) ds)) (take m (drop (at + 66) ds)))
-
--- an entry of those that word k counts: 1 the basis names, 2 the variables
-unfoldable pub goodEntry : List ℕ → ℕ → ℕ → Bool
-goodEntry ds k = cond (eqb k 1) (goodBasis ds) (goodVariable ds)
 
 -- "Names are 0 to 31": no count is above 32
 unfoldable pub counted : ℕ → ℕ → ℕ → Bool

@@ -93,7 +93,8 @@ fn add_variable(ds: &mut [u16], kind: u16, first: &[u16], second: &[u16])
 
 // One basis name more, of an index: its words are exactly one over the types.
 pub fn put_basis(ds: &mut [u16], index: &[u16]) -> Put
-    ensures { λ r. ⌜ (r ≡ answer (room (now (ds .entry)) 1) (isIndex (getD (now (ds .entry)) 0 0) (now (index .entry)))) × (now (ds .exit) ≡ leaves r (basisPut (now (ds .entry)) (now (index .entry))) (now (ds .entry))) ⌝ }
+    ensures { λ r. ⌜ r ≡ answer (room (now (ds .entry)) 1) (isIndex (getD (now (ds .entry)) 0 0) (now (index .entry))) ⌝ }
+    ensures { λ r. ⌜ now (ds .exit) ≡ leaves r (basisPut (now (ds .entry)) (now (index .entry))) (now (ds .entry)) ⌝ }
 {
     let types = word_at(ds, 0) as usize;
     let r = answer_for(ds, 1, is_index(types, index));
@@ -105,7 +106,8 @@ pub fn put_basis(ds: &mut [u16], index: &[u16]) -> Put
 
 // One variable more, of a kind and exactly the indices that it wants.
 pub fn put_variable(ds: &mut [u16], kind: u16, first: &[u16], second: &[u16]) -> Put
-    ensures { λ r. ⌜ (r ≡ answer (room (now (ds .entry)) 2) (isVariable (getD (now (ds .entry)) 0 0) kind (now (first .entry)) (now (second .entry)))) × (now (ds .exit) ≡ leaves r (variablePut (now (ds .entry)) kind (now (first .entry)) (now (second .entry))) (now (ds .entry))) ⌝ }
+    ensures { λ r. ⌜ r ≡ answer (room (now (ds .entry)) 2) (isVariable (getD (now (ds .entry)) 0 0) kind (now (first .entry)) (now (second .entry))) ⌝ }
+    ensures { λ r. ⌜ now (ds .exit) ≡ leaves r (variablePut (now (ds .entry)) kind (now (first .entry)) (now (second .entry))) (now (ds .entry)) ⌝ }
 {
     let types = word_at(ds, 0) as usize;
     let r = answer_for(ds, 2, is_variable(types, kind, first, second));

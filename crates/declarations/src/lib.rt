@@ -10,7 +10,8 @@ ghost use Prim.Native.Nat.{_+_, _≤_, _<_};
 ghost use lib.Dec.{eqb, leb};
 ghost use lib.ListN.{length, take, drop, getD};
 ghost use Rattle.words.specs.Listed.{allUpTo};
-ghost use Rattle.declarations.specs.Declarations.{indexWord, indexWords, isIndex, isVariable, goodEntry, counted, goodDeclarations, namesIn};
+ghost use Rattle.declarations.specs.Declarations.{indexWord, indexWords, isIndex, isVariable, counted, goodDeclarations, namesIn};
+ghost use Rattle.declarations.specs.Code.Entries.{goodEntry};
 
 // The words of all declarations, used or not.
 pub const SIZE: usize = 6179;

@@ -62,7 +62,8 @@ module _ {ws : List ℕ} {i j a b c d : ℕ} (p : Pair ws i j a b c d) where
 
   module _ (Γ : Context) (u v : Summand) {n m : ℕ} (e : n ≡ summandNumber u) (k : m ≡ summandNumber v) (h : getD ws 0 0 / 256 ≡ 20) where
     collects-pair : rewrite Γ (collecting u v) i j (treeIn (parse ws))
-        ≡ collected (p .first .before) (p .between) (p .second .after) (multipleOf (summandOf n) (node (p .first .label) (p .first .below))) (multipleOf (summandOf m) (node (p .second .label) (p .second .below)))
+        ≡ collected (p .first .before) (p .between) (p .second .after)
+        (multipleOf (summandOf n) (node (p .first .label) (p .first .below))) (multipleOf (summandOf m) (node (p .second .label) (p .second .below)))
     unfolding rewrite collectAt collectBefore
     collects-pair =
         let s = p .second in

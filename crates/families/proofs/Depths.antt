@@ -1,5 +1,5 @@
 -- Removing, absorbing, merging and exchanging leave a part no deeper, and exchanging leaves it as deep.
-use mathlib.Core.Path.{_≡_, refl, sym, _∙_}
+use mathlib.Core.Path.{_≡_, refl, sym, _∙_, ap}
 use mathlib.Core.Bool.{Bool, true, false, cond, _&&_}
 use mathlib.Core.Option.{Option, some, none as refused}
 use Prim.Native.Nat.{ℕ, suc, _≤_}
@@ -16,9 +16,8 @@ use Rattle.rules.proofs.Opening.{At, too-far, there, at}
 use Rattle.rules.proofs.Matching.{no-answer, cond-some}
 use Rattle.rulebook.specs.declared.Row.{Row}
 use Rattle.rulebook.specs.Code.Rows.{rowFor, rowOf}
-use Rattle.families.specs.Writing.{mayDeepen, keepsDepth}
-use Rattle.families.proofs.Lines.{lined}
-use Rattle.families.specs.Code.Families.{deepensIn, Lined, an-equation, a-spreading, a-removing, an-absorbing, a-merging, a-collecting, a-swapping, a-distributing}
+use Rattle.families.specs.Writing.{familyNumber, deepensIn, mayDeepen, keepsDepth}
+use Rattle.families.proofs.Lines.{family-is}
 
 true-false : {A : Type 0} → true ≡ false → A
 true-false e = absurd (let z : _≡_ {A = ℕ} 0 1 = cc in omega arith)
@@ -65,7 +64,7 @@ at-child {u} c make z k (there b t a q n) e = rw q (k b t a u (cond-some c (make
 
 -- what is removed, absorbed, merged or exchanged leaves the part no deeper
 pub no-deeper : (rule : Rule) → mayDeepen (some rule) ≡ false → (Γ : Context) (i j : ℕ) (t u : Tree) → rewrite Γ rule i j t ≡ some u → depth u ≤ depth t
-unfolding mayDeepen rewrite removeAt absorbAt mergeAt swapAt depth
+unfolding mayDeepen deepensIn familyNumber rowFor rewrite removeAt absorbAt mergeAt swapAt depth
 no-deeper (k ⇒ l ▷ r) h Γ i j t u e = true-false h
 no-deeper (spreading l w s r) h Γ i j t u e = true-false h
 no-deeper (removing l c) h Γ i j (node m f) u e = at-child (eqb j 0 && isHead l m (count f)) (removeAt l c) refl (removed l c) (at f i) e
@@ -77,7 +76,7 @@ no-deeper distributing h Γ i j t u e = true-false h
 
 -- an exchange leaves it as deep as it was
 pub same-depth : (rule : Rule) → keepsDepth (some rule) ≡ true → {Γ : Context} {i j : ℕ} {t u : Tree} → Instance Γ rule i j t u → depth u ≡ depth t
-unfolding keepsDepth depth
+unfolding keepsDepth familyNumber rowFor depth
 same-depth swapping h (swaps b a t u l) = omega (arith, depth*-⧺ b (t ▹ u ▹ a), depth*-⧺ b (u ▹ t ▹ a))
 same-depth (k ⇒ l ▷ r) h x = true-false (sym h)
 same-depth (spreading l w s r) h x = true-false (sym h)
@@ -88,45 +87,10 @@ same-depth (collecting u v) h x = true-false (sym h)
 same-depth distributing h x = true-false (sym h)
 
 -- ---- by the family of a row
-deepens-by : (row : Row) (rule : Rule) → Lined row rule → deepensIn (row .family) ≡ mayDeepen (some rule)
-unfolding mayDeepen deepensIn
-deepens-by row _ (an-equation x) = rw x
-deepens-by row _ (a-spreading x p q r s v) = rw x
-deepens-by row _ (a-removing x p q) = rw x
-deepens-by row _ (an-absorbing x) = rw x
-deepens-by row _ (a-merging x) = rw x
-deepens-by row _ (a-collecting x p q) = rw x
-deepens-by row _ (a-swapping x) = rw x
-deepens-by row _ (a-distributing x) = rw x
-
-keeps-by : (row : Row) (rule : Rule) → Lined row rule → eqb (row .family) 7 ≡ keepsDepth (some rule)
-unfolding keepsDepth
-keeps-by row _ (an-equation x) = rw x
-keeps-by row _ (a-spreading x p q r s v) = rw x
-keeps-by row _ (a-removing x p q) = rw x
-keeps-by row _ (an-absorbing x) = rw x
-keeps-by row _ (a-merging x) = rw x
-keeps-by row _ (a-collecting x p q) = rw x
-keeps-by row _ (a-swapping x) = rw x
-keeps-by row _ (a-distributing x) = rw x
-
--- what is read off the family of a row is what is said of its rule
-module _ (of-family : ℕ → Bool) (of-rule : Option Rule → Bool) (none-is : of-family 0 ≡ of-rule refused) (some-is : (row : Row) (rule : Rule) → Lined row rule → of-family (row .family) ≡ of-rule (some rule)) where
-  no-rule : (n : ℕ) → ruleOf n ≡ refused → of-family (rowOf n .family) ≡ of-rule (ruleOf n)
-  unfolding rowOf rowFor
-  no-rule n e = rw e none-is
-
-  by-rule : (n : ℕ) (o : Option Rule) → ruleOf n ≡ o → of-family (rowOf n .family) ≡ of-rule (ruleOf n)
-  by-rule n refused e = no-rule n e
-  by-rule n (some rule) e = rw e (some-is (rowOf n) rule (lined n rule (rowOf n) e refl))
-
-  by-row : (n : ℕ) (row : Row) → row ≡ rowOf n → of-family (row .family) ≡ of-rule (ruleOf n)
-  by-row n row e = rw e (by-rule n (ruleOf n) refl)
-
 pub row-deepens : (n : ℕ) (row : Row) → row ≡ rowOf n → deepensIn (row .family) ≡ mayDeepen (ruleOf n)
-unfolding mayDeepen deepensIn
-row-deepens = by-row deepensIn mayDeepen refl deepens-by
+unfolding mayDeepen
+row-deepens n row e = ap deepensIn (family-is n row e)
 
 pub row-keeps : (n : ℕ) (row : Row) → row ≡ rowOf n → eqb (row .family) 7 ≡ keepsDepth (ruleOf n)
 unfolding keepsDepth
-row-keeps = by-row (λ (f : ℕ). eqb f 7) keepsDepth refl keeps-by
+row-keeps n row e = ap (λ (f : ℕ). eqb f 7) (family-is n row e)

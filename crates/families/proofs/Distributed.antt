@@ -14,13 +14,13 @@ use Rattle.term.specs.Trees.{Tree, node, count, words}
 use Rattle.term.specs.Parts.{parse, treeIn}
 use Rattle.types.specs.Sorts.{Context}
 use Rattle.rules.specs.Table.{child, spreading, distributing}
-use Rattle.rules.specs.Instances.{scalar-sums, sums}
+use Rattle.rules.specs.Instances.{scalar-sums}
 use Rattle.rules.specs.Steps.{few}
 use Rattle.rules.specs.Rewrite.{isHead, open-at, place, usable, spreadAt, distributeAt, rewrite}
 use Rattle.families.specs.declared.writing.Rewritten.{Rewritten}
-use Rattle.families.specs.Code.Families.{Named, Counted, Spreads, Distributes}
+use Rattle.families.specs.Code.Families.{Does, Named, Counted, Spreads}
 use Rattle.families.specs.Writing.{Wrote, Writes}
-use Rattle.families.proofs.Written.{refuses}
+use Rattle.families.proofs.Collected.{sum}
 
 -- over one kind of sum
 abbrev over : Context → Label → ℕ → Tree → Option Tree
@@ -38,22 +38,22 @@ two-spreadings Γ i (node m f) =
     both-refused (eqb 0 0 && (usable (child 1) i && isHead big-sum m (count f))) (spreadAt big-sum scalar-sum scalar-sum o) (spreadAt big-sum add add o)
 
 -- what is written is neither refused nor followed
-module _ (out : List ℕ) (at : ℕ) where
-  not-refused : (b : Bool) (ws out′ : List ℕ) (r : Rewritten) → Wrote b ws out at out′ r → r .code ≢ 22
+module _ (out : List ℕ) where
+  not-refused : (b : Bool) (ws out′ : List ℕ) (r : Rewritten) → Wrote b ws out out′ r → r .code ≢ 22
   not-refused true ws out′ r w e = omega (arith, w .0, e)
   not-refused false ws out′ r w e = omega (arith, w .0, e)
 
-  first-writes : (x y : Option Tree) (out′ : List ℕ) (r : Rewritten) → Writes x out at out′ r → r .code ≢ 22 → Writes (orElse x y) out at out′ r
+  first-writes : (x y : Option Tree) (out′ : List ℕ) (r : Rewritten) → Writes x out out′ r → r .code ≢ 22 → Writes (orElse x y) out out′ r
   unfolding Writes orElse
   first-writes none y out′ r w h = absurd (h (w .0))
   first-writes (some q) y out′ r w h = w
 
-  second-writes : (x y : Option Tree) (mid out′ : List ℕ) (d r : Rewritten) → Writes x out at mid d → d .code ≡ 22 → Writes y mid at out′ r → Writes (orElse x y) out at out′ r
+  second-writes : (x y : Option Tree) (mid out′ : List ℕ) (d r : Rewritten) → Writes x out mid d → d .code ≡ 22 → Writes y mid out′ r → Writes (orElse x y) out out′ r
   unfolding Writes orElse
   second-writes none y mid out′ d r w h v = rw (← w .2) v
   second-writes (some q) y mid out′ d r w h v = absurd (not-refused (few q) (words q) mid d w h)
 
-unusable : (Γ : Context) (i : ℕ) (t : Tree) → i ≢ 0 → rewrite Γ distributing i 0 t ≡ none
+pub unusable : (Γ : Context) (i : ℕ) (t : Tree) → i ≢ 0 → rewrite Γ distributing i 0 t ≡ none
 unfolding rewrite usable
 unusable Γ i (node m f) h = rw (ne-eqb i 0 h)
 
@@ -65,23 +65,15 @@ scalars : Counted 7 scalar-sum
 unfolding word
 scalars = record { number = refl; chain = scalar-sums }
 
-arrays : Counted 20 add
-unfolding word
-arrays = record { number = refl; chain = sums }
+-- both spreadings are over child 1, with i unused
+spreads : (Γ : Context) (ws out out′ : List ℕ) (r : Rewritten) (i : ℕ) → i ≡ 0 → {h : ℕ} {s : Label} → Counted h s → Spreads ws out out′ r 27 1 h h → Writes (over Γ s i (treeIn (parse ws))) out out′ r
+unfolding usable place
+spreads Γ ws out out′ r i z c h = h big-sum _ _ (child 1) i named c c (eq-eqb i 0 z) refl Γ
 
-module _ (ws out : List ℕ) (at : ℕ) (i : ℕ) where
-  pub distributes-none : (out′ : List ℕ) (r : Rewritten) → i ≢ 0 → (r .code ≡ 22) × (r .end ≡ 0) → out′ ≡ out → Distributes ws out at out′ r i
-  distributes-none out′ r h c l = λ Γ. refuses out at out′ r (unusable Γ i (treeIn (parse ws)) h) c l
+module _ (ws out : List ℕ) (i : ℕ) (z : i ≡ 0) where
+  pub distributes-first : (out′ : List ℕ) (r : Rewritten) → Spreads ws out out′ r 27 1 7 7 → r .code ≢ 22 → Does ws out out′ r distributing i 0
+  distributes-first out′ r h n Γ = rw (two-spreadings Γ i (treeIn (parse ws))) (first-writes out _ _ out′ r (spreads Γ ws out out′ r i z scalars h) n)
 
-  module _ (z : i ≡ 0) where
-    pub distributes-first : (out′ : List ℕ) (r : Rewritten) → Spreads ws out at out′ r 27 1 7 7 → r .code ≢ 22 → Distributes ws out at out′ r i
-    unfolding usable place word
-    distributes-first out′ r h n Γ =
-        rw (two-spreadings Γ i (treeIn (parse ws)))
-        (first-writes out at _ _ out′ r (h big-sum scalar-sum scalar-sum (child 1) i named scalars scalars (eq-eqb i 0 z) refl Γ) n)
-
-    pub distributes-second : (mid out′ : List ℕ) (d r : Rewritten) → Spreads ws out at mid d 27 1 7 7 → d .code ≡ 22 → Spreads ws mid at out′ r 27 1 20 20 → Distributes ws out at out′ r i
-    unfolding usable place word
-    distributes-second mid out′ d r h n k Γ =
-        rw (two-spreadings Γ i (treeIn (parse ws)))
-        (second-writes out at _ _ mid out′ d r (h big-sum scalar-sum scalar-sum (child 1) i named scalars scalars (eq-eqb i 0 z) refl Γ) n (k big-sum add add (child 1) i named arrays arrays (eq-eqb i 0 z) refl Γ))
+  pub distributes-second : (mid out′ : List ℕ) (d r : Rewritten) → Spreads ws out mid d 27 1 7 7 → d .code ≡ 22 → Spreads ws mid out′ r 27 1 20 20 → Does ws out out′ r distributing i 0
+  distributes-second mid out′ d r h n k Γ =
+      rw (two-spreadings Γ i (treeIn (parse ws))) (second-writes out _ _ mid out′ d r (spreads Γ ws out mid d i z scalars h) n (spreads Γ ws mid out′ r i z sum k))

@@ -130,7 +130,8 @@ module _ {ws : List ℕ} {i start end : ℕ} (s : Split ws i start end) where
   by-word true e = located-scaled (eqb-true _ _ e)
   by-word false e = rw (no-scale (s .label) (s .below) (λ w. eqb-false _ _ e (child-word s ∙ w))) (missing refl)
 
-  by-number : (b : Bool) → Located ws start end (cond b start (cond (eqb (getD ws start 0) 4864) (start + 1 + length (part ws (start + 1))) 0)) (multipleOf (cond b plain scaled) (node (s .label) (s .below)))
+  by-number : (b : Bool) → Located ws start end (cond b start (cond (eqb (getD ws start 0) 4864) (start + 1 + length (part ws (start + 1))) 0))
+      (multipleOf (cond b plain scaled) (node (s .label) (s .below)))
   by-number true = located-plain
   by-number false = by-word (eqb (getD ws start 0) 4864) refl
 

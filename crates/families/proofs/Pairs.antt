@@ -7,11 +7,11 @@ use native.Mathlib.Omega.{arith}
 use lib.ListN.{length, take, drop, length-append}
 use lib.Seq.{take-at}
 use Rattle.term.specs.Trees.{Tree, Forest, node, none, _▹_, count, _⧺_, words, words*, Formed*}
-use Rattle.term.specs.Parts.{Whole, parse, treeIn}
+use Rattle.term.specs.Parts.{Whole}
 use Rattle.term.proofs.Parsing.{words*-⧺, Formed*-⧺}
 use Rattle.rules.specs.Rewrite.{opened, behind, open-at}
 use Rattle.families.specs.declared.children.Child.{Child}
-use Rattle.families.specs.Code.Children.{kids, childOf}
+use Rattle.families.specs.Code.Children.{kids, childOf, childIn}
 use Rattle.families.proofs.Split.{Split, split, behind-child, child-bounds, after-formed}
 
 -- ---- a child of the first of two rows, in that row and in both
@@ -42,7 +42,7 @@ pub record Pair (ws : List ℕ) (i j a b c d : ℕ) : Type 0 where
 
 -- child i is there since child j is, and both see the same row
 first-there : {ws : List ℕ} {i j c d : ℕ} {p : Child} (s : Split ws j c d) → Within (s .before) (node (s .label) (s .below) ▹ s .after) i
-    → p ≡ childOf (open-at (kids (treeIn (parse ws))) i) → p .there ≡ true
+    → p ≡ childIn ws i → p .there ≡ true
 unfolding kids childOf
 first-there s o e = rw (e, s .tree, o .both)
 
@@ -54,8 +54,8 @@ paired {i} f s o =
     record { first = f; second = s; between = o .after; opens = cc (o .here); front = cc (o .row); back = cc }
 
 -- what `child_at` answers for both, of which the second is there
-pub pair : {ws : List ℕ} {i j : ℕ} {p q : Child} → Whole ws → i < j → p ≡ childOf (open-at (kids (treeIn (parse ws))) i)
-    → q ≡ childOf (open-at (kids (treeIn (parse ws))) j) → q .there ≡ true → Pair ws i j (p .start) (p .end) (q .start) (q .end)
+pub pair : {ws : List ℕ} {i j : ℕ} {p q : Child} → Whole ws → i < j → p ≡ childIn ws i
+    → q ≡ childIn ws j → q .there ≡ true → Pair ws i j (p .start) (p .end) (q .start) (q .end)
 pair {i} w l e e′ t =
     let s = split w e′ t in
     let o = within (s .before) (node (s .label) (s .below) ▹ s .after) i (omega (arith, s .number)) in

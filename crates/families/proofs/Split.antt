@@ -12,7 +12,7 @@ use Rattle.term.specs.Parts.{Whole, parse, treeIn}
 use Rattle.term.proofs.Parsing.{count-⧺, words*-⧺, Formed*-⧺, parse-tree, some-words}
 use Rattle.rules.specs.Rewrite.{Opened, outside, opened, open-at}
 use Rattle.families.specs.declared.children.Child.{Child}
-use Rattle.families.specs.Code.Children.{kids, childOf}
+use Rattle.families.specs.Code.Children.{kids, childOf, childIn}
 use Rattle.rules.proofs.Opening.{At, too-far, there, at}
 
 -- ---- a whole part is the words of one formed tree
@@ -77,7 +77,7 @@ split-by {c} r (there b (node l f) a k n) q e t =
       ends = cc;
     }
 
-pub split : {ws : List ℕ} {i : ℕ} {c : Child} → Whole ws → c ≡ childOf (open-at (kids (treeIn (parse ws))) i) → c .there ≡ true → Split ws i (c .start) (c .end)
+pub split : {ws : List ℕ} {i : ℕ} {c : Child} → Whole ws → c ≡ childIn ws i → c .there ≡ true → Split ws i (c .start) (c .end)
 unfolding kids
 split {ws} {i} {c} w e t =
     let r = root w in

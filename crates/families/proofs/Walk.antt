@@ -1,6 +1,6 @@
 -- Passing the children of a part one by one, up to child i.
 use mathlib.Core.Path.{_≡_, refl, _∙_, ap}
-use mathlib.Core.Bool.{true, false}
+use mathlib.Core.Bool.{true}
 use mathlib.Core.List.{List, _++_}
 use Prim.Native.Nat.{ℕ, suc, _+_, _-_, _≤_, _<_}
 use native.Mathlib.Omega.{arith}
@@ -9,19 +9,19 @@ use lib.Seq.{drop-drop}
 use Rattle.term.specs.declared.heads.Arity.the-variants.{Unknown, Children}
 use Rattle.term.specs.Heads.{labelled, read, arityOf}
 use Rattle.term.specs.Trees.{Tree, Forest, none, _▹_, count, words, words*, Formed}
-use Rattle.term.specs.Parts.{Whole, parse, first, part, treeIn}
+use Rattle.term.specs.Parts.{Whole, parse, first, part}
 use Rattle.term.proofs.Parsing.{parse-all}
 use Rattle.term.proofs.Scan.{read-children, read-unknown}
 use Rattle.term.proofs.Extents.{parse-behind}
 use Rattle.rules.specs.Rewrite.{Opened, outside, opened, behind, open-at}
 use Rattle.families.specs.declared.children.Child.{Child}
-use Rattle.families.specs.Code.Children.{kids, childOf}
+use Rattle.families.specs.Code.Children.{noChild, kids, childOf, childIn}
 use Rattle.rules.proofs.Opening.{open-past}
 use Rattle.families.proofs.Split.{Root, root, first-word}
 
 -- a child of a row that begins at an offset
 unfoldable pub childFrom : ℕ → Opened → Child
-childFrom from outside = record { there = false; start = 0; end = 0 }
+childFrom from outside = noChild
 childFrom from (opened b t a) = record { there = true; start = from + length (words* b); end = from + length (words* b) + length (words t) }
 
 -- the part's own children begin at 1
@@ -61,7 +61,7 @@ root-children r = rw (r .whole) (parse-all (r .children) (r .formed .1))
 pub record Walked (ws : List ℕ) (i n start k : ℕ) : Type 0 where
   passed : k ≤ i
   left : count (parse (drop start ws)) + k ≡ n
-  answer : childOf (open-at (kids (treeIn (parse ws))) i) ≡ childFrom start (open-at (parse (drop start ws)) (i - k))
+  answer : childIn ws i ≡ childFrom start (open-at (parse (drop start ws)) (i - k))
 
 pub walked-none : {ws : List ℕ} {n : ℕ} (i : ℕ) → Whole ws → arityOf (getD ws 0 0) ≡ Children n → Walked ws i n 1 0
 unfolding kids
@@ -77,7 +77,7 @@ walked-none {ws} {n} i w e =
 
 -- there is no child i where the part has no more
 pub walked-past : {ws : List ℕ} {n : ℕ} (i : ℕ) → Whole ws → arityOf (getD ws 0 0) ≡ Children n → n ≤ i
-    → record { there = false; start = 0; end = 0 } ≡ childOf (open-at (kids (treeIn (parse ws))) i)
+    → noChild ≡ childIn ws i
 unfolding kids childOf
 walked-past i w e l =
     let r = root w in rw (r .tree, open-past (r .children) i (omega (arith, children-number r e)))
@@ -103,7 +103,7 @@ walked-more {ws} {start} w l m h = rw h (more-by w l m (parse (drop start ws)) r
 
 -- and child i itself is the next
 here-by : {ws : List ℕ} {i n start k : ℕ} → Walked ws i n start k → i ≤ k → i < n → (f : Forest) → parse (drop start ws) ≡ f
-    → record { there = true; start = start; end = start + length (first f) } ≡ childOf (open-at (kids (treeIn (parse ws))) i)
+    → record { there = true; start = start; end = start + length (first f) } ≡ childIn ws i
 unfolding first count open-at childFrom words
 here-by w l m none e = absurd (omega (arith, w .left, ap count e))
 here-by {i} {start} {k} w l m (t ▹ f) e =
@@ -112,6 +112,6 @@ here-by {i} {start} {k} w l m (t ▹ f) e =
     rw (w .answer, e, z, s)
 
 pub walked-here : {ws : List ℕ} {i n start k e : ℕ} → Walked ws i n start k → i ≤ k → i < n → e ≡ start + length (part ws start)
-    → record { there = true; start = start; end = e } ≡ childOf (open-at (kids (treeIn (parse ws))) i)
+    → record { there = true; start = start; end = e } ≡ childIn ws i
 unfolding part
 walked-here {ws} {start} w l m h = rw h (here-by w l m (parse (drop start ws)) refl)

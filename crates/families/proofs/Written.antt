@@ -11,39 +11,39 @@ use Rattle.rules.specs.Steps.{few}
 use Rattle.families.specs.declared.writing.Rewritten.{Rewritten}
 use Rattle.families.specs.Writing.{Wrote, Writes}
 
-module _ (out : List ℕ) (at : ℕ) (out′ : List ℕ) (r : Rewritten) where
+module _ {o : Option Tree} (out : List ℕ) where
   -- the part is no instance
-  pub refuses : {o : Option Tree} → o ≡ none → (r .code ≡ 22) × (r .end ≡ 0) → out′ ≡ out → Writes o out at out′ r
+  pub refuses : o ≡ none → Writes o out out (record { code = 22; end = 0 })
   unfolding Writes
-  refuses e c l = rw e (c .0, c .1, l)
-
-  -- the result is written
-  pub writes : {o : Option Tree} (q : Tree) → o ≡ some q → few q ≡ true → r .code ≡ 0 → Added out at (words q) out′ (r .end) → Writes o out at out′ r
-  unfolding Writes
-  writes q e f c a = rw (e, f) (c, a)
+  refuses e = rw e (refl, refl, refl)
 
   -- the result has a node with too many children
-  pub exceeds : {o : Option Tree} (q : Tree) → o ≡ some q → few q ≡ false → (r .code ≡ 23) × (r .end ≡ 0) → out′ ≡ out → Writes o out at out′ r
+  pub exceeds : (q : Tree) → o ≡ some q → few q ≡ false → Writes o out out (record { code = 23; end = 0 })
   unfolding Writes
-  exceeds q e f c l = rw (e, f) (c .0, c .1, l)
+  exceeds q e f = rw (e, f) (refl, refl, refl)
+
+  -- the result is written
+  pub writes : {out′ : List ℕ} {end : ℕ} (q : Tree) → o ≡ some q → few q ≡ true → Added out 0 (words q) out′ end → Writes o out out′ (record { code = 0; end = end })
+  unfolding Writes
+  writes q e f a = rw (e, f) (refl, a)
 
 -- and of a promise that is kept, which of the three it was
-pub data Way (out : List ℕ) (at : ℕ) (out′ : List ℕ) (r : Rewritten) : Option Tree → Type 0 where
-  refused : r .code ≡ 22 → length out′ ≡ length out → Way out at out′ r none
-  done : (q : Tree) → few q ≡ true → r .code ≡ 0 → Added out at (words q) out′ (r .end) → Way out at out′ r (some q)
-  exceeded : (q : Tree) → few q ≡ false → r .code ≡ 23 → length out′ ≡ length out → Way out at out′ r (some q)
+pub data Way (out out′ : List ℕ) (r : Rewritten) : Option Tree → Type 0 where
+  refused : r .code ≡ 22 → length out′ ≡ length out → Way out out′ r none
+  done : (q : Tree) → few q ≡ true → r .code ≡ 0 → Added out 0 (words q) out′ (r .end) → Way out out′ r (some q)
+  exceeded : (q : Tree) → few q ≡ false → r .code ≡ 23 → length out′ ≡ length out → Way out out′ r (some q)
 
-module _ {out : List ℕ} {at : ℕ} {out′ : List ℕ} {r : Rewritten} where
-  way-by : (q : Tree) (b : Bool) → few q ≡ b → Wrote b (words q) out at out′ r → Way out at out′ r (some q)
+module _ {out out′ : List ℕ} {r : Rewritten} where
+  way-by : (q : Tree) (b : Bool) → few q ≡ b → Wrote b (words q) out out′ r → Way out out′ r (some q)
   way-by q true f w = done q f (w .0) (w .1)
   way-by q false f w = exceeded q f (w .0) (ap length (w .2))
 
-  pub way : (o : Option Tree) → Writes o out at out′ r → Way out at out′ r o
+  pub way : (o : Option Tree) → Writes o out out′ r → Way out out′ r o
   unfolding Writes
   way none w = refused (w .0) (ap length (w .2))
   way (some q) w = way-by q (few q) refl w
 
-  pub way-size : {o : Option Tree} → Way out at out′ r o → length out′ ≡ length out
+  pub way-size : {o : Option Tree} → Way out out′ r o → length out′ ≡ length out
   way-size (refused c l) = l
   way-size (done q f c a) = a .size
   way-size (exceeded q f c l) = l

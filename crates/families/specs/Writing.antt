@@ -1,30 +1,30 @@
 -- What a rule of a family makes of the part with which words begin, as the code equals it: what to believe is `Instance` of `rules` Instances, by way of `rewrite`.
 use mathlib.Core.Path.{_≡_}
-use mathlib.Core.Bool.{Bool, true, false, cond}
+use mathlib.Core.Bool.{Bool, true, false, cond, _||_}
 use mathlib.Core.List.{List}
 use mathlib.Core.Option.{Option, some, none}
 use Prim.Native.Nat.{ℕ}
+use lib.Dec.{eqb, ltb}
 use lib.ListN.{length}
 use Rattle.words.specs.Words.{Added}
 use Rattle.term.specs.Trees.{Tree, Forest, none as no-tree, _▹_, words}
 use Rattle.term.specs.Parts.{parse, part, partDepth}
 use Rattle.types.specs.Sorts.{Context}
-use Rattle.rules.specs.Table.{Rule, _⇒_▷_, spreading, removing, absorbing, merging, collecting, swapping, distributing, ruleOf}
+use Rattle.rules.specs.Table.{Rule, ruleOf}
 use Rattle.rules.specs.Rewrite.{rewrite}
 use Rattle.rules.specs.Steps.{few}
+use Rattle.rulebook.specs.Code.Rows.{rowFor}
 use Rattle.families.specs.declared.writing.Rewritten.{Rewritten}
 use Rattle.families.specs.declared.writing.Replaced.{Replaced}
 
+-- the number of a rule's family, as its row has it: 0 for no rule
+unfoldable pub familyNumber : Option Rule → ℕ
+unfolding rowFor
+familyNumber o = rowFor 0 o .family
+
 -- every rule but an equation is a family's
 unfoldable pub isFamily : Rule → Bool
-isFamily (k ⇒ l ▷ r) = false
-isFamily (spreading l w s r) = true
-isFamily (removing l c) = true
-isFamily absorbing = true
-isFamily merging = true
-isFamily (collecting u v) = true
-isFamily swapping = true
-isFamily distributing = true
+isFamily r = ltb 1 (familyNumber (some r))
 
 -- a rule of a family at the first of a row of parts
 unfoldable pub atFirst : Context → Option Rule → ℕ → ℕ → Forest → Option Tree
@@ -36,34 +36,21 @@ atFirst Γ (some rule) i j (t ▹ f) = cond (isFamily rule) (rewrite Γ rule i j
 unfoldable pub familyOf : Context → ℕ → ℕ → ℕ → List ℕ → Option Tree
 familyOf Γ n i j ws = atFirst Γ (ruleOf n) i j (parse ws)
 
--- what is written: a result whose nodes have few children, behind the words that stand there; one that has a node of over 255 is refused with 23
-abbrev pub Wrote : Bool → List ℕ → List ℕ → ℕ → List ℕ → Rewritten → Type 0
-Wrote true ws out at out′ r = (r .code ≡ 0) × Added out at ws out′ (r .end)
-Wrote false ws out at out′ r = (r .code ≡ 23) × (r .end ≡ 0) × (out′ ≡ out)
+-- what is written: a result whose nodes have few children, from the first word on; one that has a node of over 255 is refused with 23
+abbrev pub Wrote : Bool → List ℕ → List ℕ → List ℕ → Rewritten → Type 0
+Wrote true ws out out′ r = (r .code ≡ 0) × Added out 0 ws out′ (r .end)
+Wrote false ws out out′ r = (r .code ≡ 23) × (r .end ≡ 0) × (out′ ≡ out)
 
--- Whether a rule may leave a part deeper: one that removes, absorbs, merges or exchanges does not
+-- Whether a rule may leave a part deeper, by the number of its family: one that removes (3), absorbs (4), merges (5) or exchanges (7) does not
+unfoldable pub deepensIn : ℕ → Bool
+deepensIn f = ltb f 3 || (eqb f 6 || eqb f 8)
+
 unfoldable pub mayDeepen : Option Rule → Bool
-mayDeepen none = true
-mayDeepen (some (k ⇒ l ▷ r)) = true
-mayDeepen (some (spreading l w s r)) = true
-mayDeepen (some (removing l c)) = false
-mayDeepen (some absorbing) = false
-mayDeepen (some merging) = false
-mayDeepen (some (collecting u v)) = true
-mayDeepen (some swapping) = false
-mayDeepen (some distributing) = true
+mayDeepen o = deepensIn (familyNumber o)
 
 -- and whether it leaves the part as deep as it was: one that exchanges does
 unfoldable pub keepsDepth : Option Rule → Bool
-keepsDepth none = false
-keepsDepth (some (k ⇒ l ▷ r)) = false
-keepsDepth (some (spreading l w s r)) = false
-keepsDepth (some (removing l c)) = false
-keepsDepth (some absorbing) = false
-keepsDepth (some merging) = false
-keepsDepth (some (collecting u v)) = false
-keepsDepth (some swapping) = true
-keepsDepth (some distributing) = false
+keepsDepth o = eqb (familyNumber o) 7
 
 -- what is told of the part, as a lookup hands it back: how many words it has and, where the rule of the number may leave it deeper, how deep it is
 pub record Measures (n : ℕ) (ws : List ℕ) (r : Replaced) : Type 0 where
@@ -71,11 +58,7 @@ pub record Measures (n : ℕ) (ws : List ℕ) (r : Replaced) : Type 0 where
   pub deepens : r .deepens ≡ mayDeepen (ruleOf n)
   pub depth : r .depth ≡ cond (mayDeepen (ruleOf n)) (partDepth ws 0) 0
 
--- an answer without them
-abbrev pub written : Replaced → Rewritten
-written r = record { code = r .code; end = r .end }
-
 -- 22 where the part is no instance; what is refused writes nothing
-unfoldable pub Writes : Option Tree → List ℕ → ℕ → List ℕ → Rewritten → Type 0
-Writes none out at out′ r = (r .code ≡ 22) × (r .end ≡ 0) × (out′ ≡ out)
-Writes (some q) out at out′ r = Wrote (few q) (words q) out at out′ r
+unfoldable pub Writes : Option Tree → List ℕ → List ℕ → Rewritten → Type 0
+Writes none out out′ r = (r .code ≡ 22) × (r .end ≡ 0) × (out′ ≡ out)
+Writes (some q) out out′ r = Wrote (few q) (words q) out out′ r

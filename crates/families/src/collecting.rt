@@ -1,8 +1,9 @@
 // Collecting: two summands of one X become one, with the sum of their factors.
 use crate::children::Child;
 use crate::children::child_at;
+use crate::numbers::SUM;
+use crate::writing::NO_INSTANCE;
 use crate::writing::Rewritten;
-use crate::writing::refused;
 use term::heads::SCALAR_ONE;
 use term::heads::SCALING;
 use term::parts::part_end;
@@ -18,11 +19,10 @@ ghost use lib.Dec.{eqb};
 ghost use lib.ListN.{length, take, drop, getD};
 ghost use Rattle.words.specs.Words.{sameWords, Added};
 ghost use Rattle.term.specs.Parts.{Whole, part};
+ghost use Rattle.families.specs.Code.Children.{withoutBoth};
 ghost use Rattle.families.specs.Code.Families.{Collects};
 
-// The head of what is collected from, and the word of the sum that the two factors make: 20, and 7:2.
-const SUM: u16 = 20;
-
+// The word of the sum that the two factors make: 7:2.
 const SUM_OF_TWO: u16 = 0x0702;
 
 // Where the X of a summand begins: where the summand does if it is to be plain, behind its factor if it is to be a.X, whose word is `SCALING`. No X begins at
@@ -66,18 +66,11 @@ fn factor<'a>(ws: &'a [u16], one: &'a [u16], start: usize, x: usize) -> &'a [u16
 }
 
 // A head and then the children of `ws` without these two.
-fn append_others(
-    out: &mut [u16],
-    at: usize,
-    head: u16,
-    ws: &[u16],
-    first: Child,
-    second: Child,
-) -> usize
+fn append_others(out: &mut [u16], head: u16, ws: &[u16], first: Child, second: Child) -> usize
     requires { ⌜ (1 ≤ first .start) × (first .start ≤ first .end) × (first .end ≤ second .start) × (second .start ≤ second .end) × (second .end ≤ length (now ws)) ⌝ }
-    ensures { λ r. ⌜ Added (now (out .entry)) at (head ∷ (take (first .start - 1) (drop 1 (now (ws .entry))) ++ (take (second .start - first .end) (drop (first .end) (now (ws .entry))) ++ drop (second .end) (now (ws .entry))))) (now (out .exit)) r ⌝ }
+    ensures { λ r. ⌜ Added (now (out .entry)) 0 (head ∷ withoutBoth (now (ws .entry)) first second) (now (out .exit)) r ⌝ }
 {
-    let a = append_word(out, at, head);
+    let a = append_word(out, 0, head);
     let b = append_run(out, a, ws, 1, first.start);
     let c = append_run(out, b, ws, first.end, second.start);
     append_run(out, c, ws, second.end, ws.len())
@@ -95,36 +88,28 @@ fn append_multiple(out: &mut [u16], at: usize, c: &[u16], d: &[u16], x: &[u16]) 
 }
 
 // 51 to 54: the summands `i` and `j` go, and the new one stands last.
-pub fn collect(
-    ws: &[u16],
-    u: u16,
-    v: u16,
-    i: usize,
-    j: usize,
-    out: &mut [u16],
-    at: usize,
-) -> Rewritten
+pub fn collect(ws: &[u16], u: u16, v: u16, i: usize, j: usize, out: &mut [u16]) -> Rewritten
     requires { ⌜ Whole (now ws) ⌝ }
-    ensures { λ r. ⌜ Collects (now (ws .entry)) (now (out .entry)) at (now (out .exit)) r u v i j ⌝ }
+    ensures { λ r. ⌜ Collects (now (ws .entry)) (now (out .entry)) (now (out .exit)) r u v i j ⌝ }
 {
     if ws[0] / 256 != SUM || j <= i {
-        return refused(22);
+        return NO_INSTANCE;
     }
     let second = child_at(ws, j);
     if !second.there {
-        return refused(22);
+        return NO_INSTANCE;
     }
     let first = child_at(ws, i);
     let x = x_of(ws, first.start, u);
     let y = x_of(ws, second.start, v);
     let end = first.end;
     if !same_x(ws, x, end, y, second.end) {
-        return refused(22);
+        return NO_INSTANCE;
     }
     let one = [SCALAR_ONE];
     let c = factor(ws, &one, first.start, x);
     let d = factor(ws, &one, second.start, y);
-    let kept = append_others(out, at, ws[0] - 1, ws, first, second);
+    let kept = append_others(out, ws[0] - 1, ws, first, second);
     let done = append_multiple(out, kept, c, d, &ws[x..end]);
     Rewritten { code: 0, end: done }
 }

@@ -2,6 +2,7 @@
 mod chains;
 mod children;
 mod collecting;
+mod numbers;
 mod spreading;
 pub mod writing;
 
@@ -10,10 +11,13 @@ use crate::chains::merge;
 use crate::chains::remove;
 use crate::chains::swap;
 use crate::collecting::collect;
+use crate::numbers::BIG_SUM;
+use crate::numbers::SCALAR_SUM;
+use crate::numbers::SUM;
 use crate::spreading::spread;
+use crate::writing::NO_INSTANCE;
 use crate::writing::Replaced;
 use crate::writing::Rewritten;
-use crate::writing::refused;
 use rulebook::Row;
 use rulebook::row_of;
 use term::parts::part_at;
@@ -24,89 +28,80 @@ ghost use mathlib.Core.Bool.{cond};
 ghost use lib.ListN.{length};
 ghost use Rattle.term.specs.Parts.{Whole, part, partDepth};
 ghost use Rattle.types.specs.Sorts.{Context};
-ghost use Rattle.rules.specs.Table.{Rule, ruleOf};
+ghost use Rattle.rules.specs.Table.{Rule, distributing, ruleOf};
 ghost use Rattle.rulebook.specs.Code.Rows.{rowOf};
-ghost use Rattle.families.specs.Code.Families.{Does, Distributes, Lined, deepensIn};
-ghost use Rattle.families.specs.Writing.{Writes, Measures, written, familyOf, keepsDepth};
+ghost use Rattle.families.specs.Code.Families.{Does, Lined};
+ghost use Rattle.families.specs.Writing.{Writes, Measures, familyOf, deepensIn, keepsDepth};
 
 // Spreading over the child that the row names, and then `i` is to be 0, or over child `i`.
 fn spread_by(ws: &[u16], row: Row, i: usize, out: &mut [u16]) -> Rewritten
-    requires { ⌜ Whole (now ws) × ((rule : Rule) × Lined row rule) × (row .family ≡ 2) ⌝ }
-    ensures { λ r. ⌜ ((rule : Rule) → Lined row rule → Does (now (ws .entry)) (now (out .entry)) 0 (now (out .exit)) r rule i 0) ⌝ }
+    requires { ⌜ Whole (now ws) × ((rule : Rule) × Lined row 2 rule) ⌝ }
+    ensures { λ r. ⌜ ((rule : Rule) → Lined row 2 rule → Does (now (ws .entry)) (now (out .entry)) (now (out .exit)) r rule i 0) ⌝ }
 {
     let which = row.b as usize;
     if which == 2 {
-        return spread(ws, row.a, i, row.c, row.d, out, 0);
+        return spread(ws, row.a, i, row.c, row.d, out);
     }
     if i != 0 {
-        return refused(22);
+        return NO_INSTANCE;
     }
-    spread(ws, row.a, which, row.c, row.d, out, 0)
+    spread(ws, row.a, which, row.c, row.d, out)
 }
 
 // A sum over a basis spreads over its body: over one of scalars or, where it is none, over one of arrays. A refusal writes nothing.
 fn distribute(ws: &[u16], i: usize, out: &mut [u16]) -> Rewritten
     requires { ⌜ Whole (now ws) ⌝ }
-    ensures { λ r. ⌜ Distributes (now (ws .entry)) (now (out .entry)) 0 (now (out .exit)) r i ⌝ }
+    ensures { λ r. ⌜ Does (now (ws .entry)) (now (out .entry)) (now (out .exit)) r distributing i 0 ⌝ }
 {
     if i != 0 {
-        return refused(22);
+        return NO_INSTANCE;
     }
-    let done = spread(ws, 27, 1, 7, 7, out, 0);
+    let done = spread(ws, BIG_SUM, 1, SCALAR_SUM, SCALAR_SUM, out);
     if done.code != 22 {
         return done;
     }
-    spread(ws, 27, 1, 20, 20, out, 0)
+    spread(ws, BIG_SUM, 1, SUM, SUM, out)
 }
 
 // The families with one index.
 fn apply_family(ws: &[u16], row: Row, i: usize, out: &mut [u16]) -> Rewritten
-    requires { ⌜ Whole (now ws) × ((rule : Rule) × Lined row rule) × (row .family ≢ 1) × (row .family ≢ 6) ⌝ }
-    ensures { λ r. ⌜ ((rule : Rule) → Lined row rule → Does (now (ws .entry)) (now (out .entry)) 0 (now (out .exit)) r rule i 0) ⌝ }
+    requires { ⌜ Whole (now ws) × ((rule : Rule) × Lined row (row .family) rule) × (row .family ≢ 1) × (row .family ≢ 6) ⌝ }
+    ensures { λ r. ⌜ ((rule : Rule) → Lined row (row .family) rule → Does (now (ws .entry)) (now (out .entry)) (now (out .exit)) r rule i 0) ⌝ }
 {
     if row.family == 2 {
         return spread_by(ws, row, i, out);
     }
     if row.family == 3 {
-        return remove(ws, row.a, row.b, i, out, 0);
+        return remove(ws, row.a, row.b, i, out);
     }
     if row.family == 4 {
-        return absorb(ws, i, out, 0);
+        return absorb(ws, i, out);
     }
     if row.family == 5 {
-        return merge(ws, i, out, 0);
+        return merge(ws, i, out);
     }
     if row.family == 7 {
-        return swap(ws, i, out, 0);
+        return swap(ws, i, out);
     }
     distribute(ws, i, out)
 }
 
-// What the rule of a number, with its row, makes of the part that is the first `end` of the words.
-fn family_at(
-    ws: &[u16],
-    end: usize,
-    rule: usize,
-    row: Row,
-    i: usize,
-    j: usize,
-    out: &mut [u16],
-) -> Rewritten
-    requires { ⌜ (end ≡ length (part (now ws) 0)) × (row ≡ rowOf rule) ⌝ }
-    ensures { λ r. ⌜ ((Γ : Context) → Writes (familyOf Γ rule i j (now (ws .entry))) (now (out .entry)) 0 (now (out .exit)) r) ⌝ }
+// What the rule of a number, with its row, makes of a part, which has no words where there is none.
+fn family_at(part: &[u16], rule: usize, row: Row, i: usize, j: usize, out: &mut [u16]) -> Rewritten
+    requires { ⌜ (length (now part) ≢ 0 → Whole (now part)) × (row ≡ rowOf rule) ⌝ }
+    ensures { λ r. ⌜ ((Γ : Context) → Writes (familyOf Γ rule i j (now (part .entry))) (now (out .entry)) (now (out .exit)) r) ⌝ }
 {
-    if end == 0 {
-        return refused(22);
+    if part.len() == 0 {
+        return NO_INSTANCE;
     }
     if row.family <= 1 {
-        return refused(22);
+        return NO_INSTANCE;
     }
-    let part = &ws[..end];
     if row.family == 6 {
-        return collect(part, row.a, row.b, i, j, out, 0);
+        return collect(part, row.a, row.b, i, j, out);
     }
     if j != 0 {
-        return refused(22);
+        return NO_INSTANCE;
     }
     apply_family(part, row, i, out)
 }
@@ -150,16 +145,16 @@ fn extent_of(ws: &[u16], deepens: bool) -> Extent
 
 // What the rule of a number makes of the part with which the words begin: 22 where no whole part does, and for a number that is no family's.
 pub fn rewrite_family(ws: &[u16], rule: usize, i: usize, j: usize, out: &mut [u16]) -> Replaced
-    ensures { λ r. ⌜ ((Γ : Context) → Writes (familyOf Γ rule i j (now (ws .entry))) (now (out .entry)) 0 (now (out .exit)) (written r)) × Measures rule (now (ws .entry)) r ⌝ }
+    ensures { λ r. ⌜ ((Γ : Context) → Writes (familyOf Γ rule i j (now (ws .entry))) (now (out .entry)) (now (out .exit)) (r .written)) × Measures rule (now (ws .entry)) r ⌝ }
 {
     let row = row_of(rule);
     let deepens = may_deepen(row.family);
     let part = extent_of(ws, deepens);
-    let made = family_at(ws, part.size, rule, row, i, j, out);
+    let size = part.size;
+    let written = family_at(&ws[..size], rule, row, i, j, out);
     Replaced {
-        code: made.code,
-        end: made.end,
-        size: part.size,
+        written,
+        size,
         deepens,
         depth: part.depth,
     }

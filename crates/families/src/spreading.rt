@@ -1,7 +1,7 @@
 // Spreading: a head over a sum becomes the sum of that head over each of the summands.
-use crate::children::child_at;
+use crate::children::child_under;
+use crate::writing::NO_INSTANCE;
 use crate::writing::Rewritten;
-use crate::writing::refused;
 use term::parts::part_end;
 use words::append_run;
 use words::append_word;
@@ -31,31 +31,17 @@ fn append_around(
 }
 
 // Child `k`, a sum, is spread over.
-pub fn spread(
-    ws: &[u16],
-    parent: u16,
-    k: usize,
-    sum: u16,
-    result: u16,
-    out: &mut [u16],
-    at: usize,
-) -> Rewritten
-    requires { ⌜ Whole (now ws) × (result < 256) ⌝ }
-    ensures { λ r. ⌜ Spreads (now (ws .entry)) (now (out .entry)) at (now (out .exit)) r parent k sum result ⌝ }
+pub fn spread(ws: &[u16], parent: u16, k: usize, sum: u16, into: u16, out: &mut [u16]) -> Rewritten
+    requires { ⌜ Whole (now ws) × (into < 256) ⌝ }
+    ensures { λ r. ⌜ Spreads (now (ws .entry)) (now (out .entry)) (now (out .exit)) r parent k sum into ⌝ }
 {
-    if ws[0] / 256 != parent {
-        return refused(22);
-    }
-    let c = child_at(ws, k);
+    let c = child_under(ws, parent, k, sum);
     if !c.there {
-        return refused(22);
+        return NO_INSTANCE;
     }
     let start = c.start;
     let end = c.end;
-    if ws[start] / 256 != sum {
-        return refused(22);
-    }
-    let mut done = append_word(out, at, result * 256 + ws[start] % 256);
+    let mut done = append_word(out, 0, into * 256 + ws[start] % 256);
     let mut next = start + 1;
     while next < end {
         let behind = part_end(ws, next);

@@ -6,22 +6,21 @@ use Prim.Native.Nat.{ℕ}
 use native.Mathlib.Omega.{arith}
 use lib.ListN.{length}
 use Rattle.format.specs.Files.{File, Written}
-use Rattle.format.specs.Kept.{declarationsOf, padded, stepsOf}
 use Rattle.format.proofs.Stepped.{steps-in-order}
 use Rattle.step.specs.declared.run.Answer as A
 use Rattle.step.specs.Derivations as D
 use Rattle.step.proofs.RunTheorems as T
-use Rattle.file.specs.Replays.{replayAnswer, leftReplayed, rightReplayed}
-use Rattle.file.specs.Files.{Accepted, RunDecides, Sized, Decision, wrong-size, unread, replayed}
+use Rattle.file.specs.Replays.{derivationOf, replayAnswer, leftReplayed, rightReplayed}
+use Rattle.file.specs.Files.{AcceptedFile, RunDecides, Sized, FileDecision, wrong-size, unread, replayed}
 use Rattle.file.proofs.Sides.{side-typed, typed-side, steps-lent, lent-steps}
 use Rattle.file.proofs.Decided.{run-accepted}
 use Rattle.file.proofs.Replayed.{decided, answer-of, left-of, right-of}
 
 abbrev pub Run : File → Type 0
-Run f = D.Accepted (declarationsOf f) (padded (f .left)) (length (f .left)) (padded (f .right)) (length (f .right)) (stepsOf f) (length (f .steps))
+Run f = D.Accepted (derivationOf f)
 
 -- ---- from the run to the file, and back
-of-run : {bytes : List ℕ} {f : File} → Written bytes f → Run f → Accepted bytes
+of-run : {bytes : List ℕ} {f : File} → Written bytes f → Run f → AcceptedFile bytes
 of-run {f} w a =
     let o = w .order in
     record {
@@ -36,7 +35,7 @@ of-run {f} w a =
       same = a .same;
     }
 
-abbrev pub to-run : {bytes : List ℕ} (a : Accepted bytes) → Run (a .file)
+abbrev pub to-run : {bytes : List ℕ} (a : AcceptedFile bytes) → Run (a .file)
 to-run a =
     let f = a .file in
     let o = a .written .order in
@@ -52,19 +51,18 @@ to-run a =
     }
 
 -- ---- exactly when
-accepted-by : {bytes left right : List ℕ} {a : A.Answer} {l r : List ℕ} → Sized left right → Decision bytes left right a l r → a .code ≡ 0 → Accepted bytes
+accepted-by : {bytes left right : List ℕ} {a : A.Answer} {l r : List ℕ} → Sized left right → FileDecision bytes left right a l r → a .code ≡ 0 → AcceptedFile bytes
 accepted-by h (wrong-size x) e = absurd (x h)
 accepted-by h (unread s k x y) e = absurd (omega arith)
 accepted-by h (replayed {f} s w d) e = of-run w (run-accepted f (w .order) d e)
 
 module _ (bytes left right : List ℕ) where
-  accepted-code : Sized left right → Accepted bytes → replayAnswer bytes left right .code ≡ 0
-  accepted-code h a = ap (λ (x : A.Answer). x .code) (answer-of bytes left right (a .file) h (a .written)) ∙ T.accepts _ _ _ _ _ _ _ .1 (to-run a)
+  accepted-code : Sized left right → AcceptedFile bytes → replayAnswer bytes left right .code ≡ 0
+  accepted-code h a = ap (λ (x : A.Answer). x .code) (answer-of bytes left right (a .file) h (a .written)) ∙ T.accepts _ .1 (to-run a)
 
-  pub accepts : Sized left right → (replayAnswer bytes left right .code ≡ 0) ↔ Accepted bytes
+  pub accepts : Sized left right → (replayAnswer bytes left right .code ≡ 0) ↔ AcceptedFile bytes
   accepts h = (accepted-by h (decided bytes left right), accepted-code h)
 
   pub otherwise : (f : File) → Sized left right → Written bytes f → RunDecides f (replayAnswer bytes left right) (leftReplayed bytes left right) (rightReplayed bytes left right)
   otherwise f h w =
-      rw (answer-of bytes left right f h w, left-of bytes left right f h w, right-of bytes left right f h w)
-      (T.decides (declarationsOf f) (padded (f .left)) (length (f .left)) (padded (f .right)) (length (f .right)) (stepsOf f) (length (f .steps)))
+      rw (answer-of bytes left right f h w, left-of bytes left right f h w, right-of bytes left right f h w) (T.decides (derivationOf f))

@@ -8,6 +8,7 @@ use lib.ListN.{length, replicate, length-append, length-replicate}
 use lib.Seq.{drop-append-seam}
 use Rattle.term.specs.Terms.{maxWords}
 use Rattle.term.specs.Trees.{Tree, words}
+use Rattle.lent.specs.Lent.{Derivation}
 use Rattle.step.specs.Answers.{held}
 use Rattle.step.specs.declared.run.Answer.{Answer}
 use Rattle.step.specs.Derivations.{Decision, untouched, refused, stopped, differ, accepted}
@@ -28,18 +29,18 @@ pub none-behind : (n : ℕ) → ZerosBehind 0 (replicate n 0)
 none-behind n = let z : length (replicate {A = ℕ} n 0) - 0 ≡ n = rw length-replicate (omega arith) in rw z
 
 -- whatever a run decides
-pub run-behind : {ds left right steps : List ℕ} {n m count : ℕ} {a : Answer} {l r : List ℕ} → Decision ds left n right m steps count a l r → a .code ≢ 1
+pub run-behind : {d : Derivation} {a : Answer} {l r : List ℕ} → Decision d a l r → a .code ≢ 1
     → ZerosBehind (a .left) l × ZerosBehind (a .right) r
 run-behind (untouched x) h = absurd (h refl)
-run-behind {left} {right} (refused k x) h = (none-behind (length left), none-behind (length right))
+run-behind {d} (refused k x) h = (none-behind (length (d .left)), none-behind (length (d .right)))
 run-behind (stopped {r} b s) h = (held-behind (r .sides .left), held-behind (r .sides .right))
-run-behind (differ {q} b t d) h = (held-behind (q .left), held-behind (q .right))
+run-behind (differ {q} b t e) h = (held-behind (q .left), held-behind (q .right))
 run-behind (accepted a) h = (held-behind (a .end .left), held-behind (a .end .right))
 
-pub run-untouched : {ds left right steps : List ℕ} {n m count : ℕ} {a : Answer} {l r : List ℕ} → Decision ds left n right m steps count a l r → a .code ≡ 1
-    → (l ≡ left) × (r ≡ right)
+pub run-untouched : {d : Derivation} {a : Answer} {l r : List ℕ} → Decision d a l r → a .code ≡ 1
+    → (l ≡ d .left) × (r ≡ d .right)
 run-untouched (untouched x) h = (refl, refl)
 run-untouched (refused k x) h = absurd (k h)
 run-untouched (stopped b s) h = absurd (omega (arith, stopped-code s))
-run-untouched (differ b t d) h = absurd (omega arith)
+run-untouched (differ b t e) h = absurd (omega arith)
 run-untouched (accepted a) h = absurd (omega arith)

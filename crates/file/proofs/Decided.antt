@@ -6,36 +6,26 @@ use native.Mathlib.Omega.{arith}
 use lib.ListN.{length}
 use Rattle.types.specs.Sorts.{Sort}
 use Rattle.rules.specs.Steps.{Sides}
-use Rattle.lent.specs.Refusals.{Refused, wrong-size, bad-declarations, no-term, bad-steps, left-stray, left-untyped, left-no-type, right-stray, right-untyped, right-no-type, types-differ, Begun}
-use Rattle.lent.proofs.Judging.{not-both}
+use Rattle.lent.specs.Refusals.{Refused, Begun}
+use Rattle.lent.proofs.Judging.{refused-codes}
 use Rattle.format.specs.Files.{File, InOrder}
-use Rattle.format.specs.Kept.{declarationsOf, padded, stepsOf}
 use Rattle.format.proofs.Stepped.{steps-in-order}
 use Rattle.step.specs.declared.run.Answer as A
 use Rattle.step.specs.Derivations as D
+use Rattle.file.specs.Replays.{derivationOf}
 use Rattle.file.specs.Files.{LateCode, of-types, of-step, of-ends, of-none, RunDecides, PastTypes}
 use Rattle.file.proofs.Late.{not-between, stopped-code}
 use Rattle.file.proofs.Sides.{side-held}
 
 module _ (f : File) (o : InOrder f) where
   abbrev Refuses : ℕ → ℕ → ℕ → Type 0
-  Refuses = Refused (declarationsOf f) (padded (f .left)) (length (f .left)) (padded (f .right)) (length (f .right)) (stepsOf f) (length (f .steps))
+  Refuses = Refused (derivationOf f)
 
   abbrev Begins : Sides → Sort → Type 0
-  Begins = Begun (declarationsOf f) (padded (f .left)) (length (f .left)) (padded (f .right)) (length (f .right)) (stepsOf f) (length (f .steps))
+  Begins = Begun (derivationOf f)
 
   refused-code : {c s k : ℕ} → Refuses c s k → (10 ≤ c) × (c ≤ 13)
-  refused-code (wrong-size x) = absurd (x (side-held f o (f .left) (o .left) .1 .size, side-held f o (f .right) (o .right) .1 .size))
-  refused-code (bad-declarations x e) = absurd (not-both e (side-held f o (f .left) (o .left) .1 .good))
-  refused-code (no-term x g h) = absurd (h _ _ (side-held f o (f .left) (o .left) .1, side-held f o (f .right) (o .right) .1))
-  refused-code (bad-steps x h) = absurd (h (steps-in-order f (o .few-steps)))
-  refused-code (left-stray x a h) = omega arith
-  refused-code (left-untyped x a n h k) = omega arith
-  refused-code (left-no-type x a d h) = omega arith
-  refused-code (right-stray x a t h) = omega arith
-  refused-code (right-untyped x a t n h k) = omega arith
-  refused-code (right-no-type x a t d h) = omega arith
-  refused-code (types-differ a h k x) = omega arith
+  refused-code x = refused-codes x .1 _ _ (side-held f o (f .left) (o .left) .1) (side-held f o (f .right) (o .right) .1) (steps-in-order f (o .few-steps))
 
   -- the codes of a file of the form
   pub run-code : {a : A.Answer} {l r : List ℕ} → RunDecides f a l r → LateCode (a .code)
@@ -53,8 +43,7 @@ module _ (f : File) (o : InOrder f) where
   run-begun (D.differ b t d) e = (_, _, b)
   run-begun (D.accepted a) e = (a .start, a .sort, record { left-term = a .left-term; right-term = a .right-term; order = a .order })
 
-  pub run-accepted : {a : A.Answer} {l r : List ℕ} → RunDecides f a l r → a .code ≡ 0
-      → D.Accepted (declarationsOf f) (padded (f .left)) (length (f .left)) (padded (f .right)) (length (f .right)) (stepsOf f) (length (f .steps))
+  pub run-accepted : {a : A.Answer} {l r : List ℕ} → RunDecides f a l r → a .code ≡ 0 → D.Accepted (derivationOf f)
   run-accepted (D.untouched x) e = absurd (omega arith)
   run-accepted (D.refused h x) e = absurd (omega (arith, refused-code x))
   run-accepted (D.stopped b s) e = absurd (omega (arith, stopped-code s))

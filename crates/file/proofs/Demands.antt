@@ -18,8 +18,8 @@ demand1 = record {
   replay-untouched = λ bytes left right. untouched (decided bytes left right);
   step-zeros = step-zeros;
   step-untouched = step-untouched;
-  run-zeros = λ ds left n right m steps count. run-behind (decides ds left n right m steps count);
-  run-untouched = λ ds left n right m steps count. run-untouched (decides ds left n right m steps count);
+  run-zeros = λ d. run-behind (decides d);
+  run-untouched = λ d. run-untouched (decides d);
 }
 
 pub demand2 : Demand2

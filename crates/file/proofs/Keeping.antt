@@ -14,14 +14,14 @@ use Rattle.declarations.proofs.Entries.{well-formed}
 use Rattle.rules.specs.Steps.{Sides}
 use Rattle.lent.specs.Refusals.{Begun}
 use Rattle.format.specs.Files.{File, contextOf, Written}
-use Rattle.format.specs.Kept.{declarationsOf, padded, stepsOf}
+use Rattle.format.specs.Kept.{declarationsOf}
 use Rattle.format.proofs.Declared.{declared}
 use Rattle.step.specs.declared.run.Answer as A
 use Rattle.step.specs.Alike.{Alike}
 use Rattle.step.proofs.RunTheorems as T
-use Rattle.file.specs.Replays.{replayAnswer}
-use Rattle.file.specs.Files.{Accepted, Sized, Decision, wrong-size, unread, replayed, PastTypes}
-use Rattle.file.specs.Demands.{Kept}
+use Rattle.file.specs.Replays.{derivationOf, replayAnswer}
+use Rattle.file.specs.Files.{AcceptedFile, Sized, FileDecision, wrong-size, unread, replayed, PastTypes}
+use Rattle.file.specs.Demands.{FileKept}
 use Rattle.file.proofs.Late.{not-between}
 use Rattle.file.proofs.Sides.{context, typed-side, alike-of}
 use Rattle.file.proofs.Decided.{run-begun}
@@ -35,8 +35,8 @@ chooses-lent ds e = M.chooses gaussian (contextIn ds) (well-formed ds e) refl
 pub chooses : (bytes : List ℕ) (f : File) → Written bytes f → EveryChoice gaussian (contextOf f)
 chooses bytes f w = rw (context f (w .order)) at (chooses-lent (declarationsOf f) (declared f (w .order .declared) .good))
 
-pub proves : (bytes : List ℕ) (a : Accepted bytes) → Alike (contextOf (a .file)) (a .sort) (a .start .left) (a .start .right)
-proves bytes a = alike-of (a .file) (a .written .order) (T.proves _ _ _ _ _ _ _ (to-run a))
+pub proves : (bytes : List ℕ) (a : AcceptedFile bytes) → Alike (contextOf (a .file)) (a .sort) (a .start .left) (a .start .right)
+proves bytes a = alike-of (a .file) (a .written .order) (T.proves _ (to-run a))
 
 -- ---- a run that began
 record Started (bytes left right : List ℕ) : Type 0 where
@@ -45,21 +45,21 @@ record Started (bytes left right : List ℕ) : Type 0 where
   written : Written bytes file
   start : Sides
   sort : Sort
-  begun : Begun (declarationsOf file) (padded (file .left)) (length (file .left)) (padded (file .right)) (length (file .right)) (stepsOf file) (length (file .steps)) start sort
+  begun : Begun (derivationOf file) start sort
 
-started : {bytes left right : List ℕ} {a : A.Answer} {l r : List ℕ} → Decision bytes left right a l r → PastTypes (a .code) → Started bytes left right
+started : {bytes left right : List ℕ} {a : A.Answer} {l r : List ℕ} → FileDecision bytes left right a l r → PastTypes (a .code) → Started bytes left right
 started (wrong-size x) h = absurd (not-between h (omega arith))
 started (unread s e x y) h = absurd (not-between h (omega arith))
 started (replayed {f} s w d) h =
     let b = run-begun f (w .order) d h in
     record { file = f; sizes = s; written = w; start = b .0; sort = b .1; begun = b .2 }
 
-kept : {bytes left right : List ℕ} → Started bytes left right → Kept bytes left right
+kept : {bytes left right : List ℕ} → Started bytes left right → FileKept bytes left right
 kept {bytes} {left} {right} s =
     let f = s .file in
     let w = s .written in
     let o = w .order in
-    let k = T.keeps _ _ _ _ _ _ _ _ _ (s .begun) in
+    let k = T.keeps _ _ _ (s .begun) in
     let q = k .1 in
     let e = answer-of bytes left right f (s .sizes) w in
     record {
@@ -78,5 +78,5 @@ kept {bytes} {left} {right} s =
       right-alike = alike-of f o (q .right-alike);
     }
 
-pub keeps : (bytes left right : List ℕ) → PastTypes (replayAnswer bytes left right .code) → Kept bytes left right
+pub keeps : (bytes left right : List ℕ) → PastTypes (replayAnswer bytes left right .code) → FileKept bytes left right
 keeps bytes left right h = kept (started (decided bytes left right) h)

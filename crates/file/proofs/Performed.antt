@@ -16,17 +16,10 @@ use Rattle.format.specs.Kept.{stepsSize, declarationsOf, padded, stepsOf}
 use Rattle.format.proofs.Codes.{fault-code}
 use Rattle.reader.specs.declared.files.Read.{Read}
 use Rattle.reader.specs.Answers as R
+use Rattle.lent.specs.Lent.{lent}
 use Rattle.step.specs.declared.run.Answer as A
 use Rattle.step.specs.Runs.{runAnswer, leftAfter, rightAfter}
-use Rattle.file.specs.Replays.{refusal, answered, slice, sized, runOfFile, leftOfFile, rightOfFile, replayAnswer, leftReplayed, rightReplayed}
-
--- what the reader promises of four slices, two of them of the right size
-pub record Done (bytes ds left right steps : List ℕ) (r : Read) (ds′ left′ right′ steps′ : List ℕ) : Type 0 where
-  pub answer : r ≡ R.readAnswer bytes ds left right steps
-  pub declarations : ds′ ≡ R.declarationsAfter bytes ds left right steps
-  pub lefts : left′ ≡ R.leftAfter bytes ds left right steps
-  pub rights : right′ ≡ R.rightAfter bytes ds left right steps
-  pub moves : steps′ ≡ R.stepsAfter bytes ds left right steps
+use Rattle.file.specs.Replays.{fileRefusal, answered, slice, sized, runOfFile, leftOfFile, rightOfFile, replayAnswer, leftReplayed, rightReplayed}
 
 -- where the work slices are of the right size
 sized-same : (ds left right steps : List ℕ) → length ds ≡ size → length steps ≡ stepsSize → R.sized ds left right steps ≡ sized left right
@@ -38,8 +31,8 @@ sized-same ds left right steps d s = rw (eq-eqb _ _ d, eq-eqb _ _ s) (both (eqb 
     both true false = refl
     both false b = refl
 
-as-refused : {r : Read} {c n : ℕ} → r ≡ R.refusal c n → refusal (r .code) (r .at) ≡ refusal c n
-as-refused e = ap (λ x. refusal (x .code) (x .at)) e
+as-refused : {r : Read} {c n : ℕ} → r ≡ R.readRefusal c n → fileRefusal (r .code) (r .at) ≡ fileRefusal c n
+as-refused e = ap (λ x. fileRefusal (x .code) (x .at)) e
 
 read-code : (f : File) → R.answerOf (read f) .code ≡ 0
 unfolding R.answerOf
@@ -47,8 +40,7 @@ read-code f = refl
 
 -- the run of what was read is the file's
 same-run : (f : File) {r : Read} {ds left right steps : List ℕ} → r ≡ R.answerOf (read f) → ds ≡ declarationsOf f → left ≡ padded (f .left) → right ≡ padded (f .right) → steps ≡ stepsOf f
-    → (runAnswer ds left (r .left) right (r .right) steps (r .steps) ≡ runOfFile f) × (leftAfter ds left (r .left) right (r .right) steps (r .steps) ≡ leftOfFile f)
-    × (rightAfter ds left (r .left) right (r .right) steps (r .steps) ≡ rightOfFile f)
+    → let d = lent ds left (r .left) right (r .right) steps (r .steps) in (runAnswer d ≡ runOfFile f) × (leftAfter d ≡ leftOfFile f) × (rightAfter d ≡ rightOfFile f)
 unfolding R.answerOf
 same-run f a d l u m = (rw (a, d, l, u, m), rw (a, d, l, u, m), rw (a, d, l, u, m))
 
@@ -62,11 +54,11 @@ module _ (bytes left right : List ℕ) where
   like : {a b : A.Answer} {l m r s : List ℕ} → a ≡ b → l ≡ m → r ≡ s → Replayed b m s → Replayed a l r
   like e p q x = record { answer = e ∙ x .answer; left-slice = p ∙ x .left-slice; right-slice = q ∙ x .right-slice }
 
-  not-sized : sized left right ≡ false → Replayed (refusal 1 0) left right
+  not-sized : sized left right ≡ false → Replayed (fileRefusal 1 0) left right
   unfolding replayAnswer leftReplayed rightReplayed
   not-sized e = record { answer = rw e; left-slice = rw e; right-slice = rw e }
 
-  not-read : {c n : ℕ} → sized left right ≡ true → readOf bytes ≡ fault c n → Replayed (refusal c n) (replicate maxWords 0) (replicate maxWords 0)
+  not-read : {c n : ℕ} → sized left right ≡ true → readOf bytes ≡ fault c n → Replayed (fileRefusal c n) (replicate maxWords 0) (replicate maxWords 0)
   unfolding replayAnswer leftReplayed rightReplayed answered slice
   not-read e k = record { answer = rw (e, k); left-slice = rw (e, k); right-slice = rw (e, k) }
 
@@ -78,16 +70,17 @@ module _ (bytes left right : List ℕ) where
   unfolding sized
   both-sized e = let p = and-eq-true-iff (eqb (length left) maxWords) _ .0 e in (eqb-true _ _ (p .0), eqb-true _ _ (p .1))
 
-  module _ (ds steps : List ℕ) (d : length ds ≡ size) (s : length steps ≡ stepsSize) {r : Read} {ds′ left′ right′ steps′ : List ℕ} (h : Done bytes ds left right steps r ds′ left′ right′ steps′) where
+  module _ (ds steps : List ℕ) (d : length ds ≡ size) (s : length steps ≡ stepsSize) {r : Read} {ds′ left′ right′ steps′ : List ℕ}
+      (h : R.Done bytes ds left right steps r ds′ left′ right′ steps′) where
     is-sized : {t : Bool} → sized left right ≡ t → R.sized ds left right steps ≡ t
     is-sized e = sized-same ds left right steps d s ∙ e
 
     -- what stands in the slices behind each answer
-    un-sized : sized left right ≡ false → (r ≡ R.refusal 1 0) × (left′ ≡ left) × (right′ ≡ right)
+    un-sized : sized left right ≡ false → (r ≡ R.readRefusal 1 0) × (left′ ≡ left) × (right′ ≡ right)
     unfolding R.readAnswer R.after
     un-sized e = let z = is-sized e in (h .answer ∙ rw z, h .lefts ∙ rw z, h .rights ∙ rw z)
 
-    un-read : {c n : ℕ} → sized left right ≡ true → readOf bytes ≡ fault c n → (r ≡ R.refusal c n) × (left′ ≡ replicate maxWords 0) × (right′ ≡ replicate maxWords 0)
+    un-read : {c n : ℕ} → sized left right ≡ true → readOf bytes ≡ fault c n → (r ≡ R.readRefusal c n) × (left′ ≡ replicate maxWords 0) × (right′ ≡ replicate maxWords 0)
     unfolding R.readAnswer R.after R.answerOf R.slice
     un-read e k =
         let z = is-sized e in
@@ -100,7 +93,7 @@ module _ (bytes left right : List ℕ) where
         let z = is-sized e in
         (h .answer ∙ rw (z, k), h .declarations ∙ rw (z, k), h .lefts ∙ rw (z, k), h .rights ∙ rw (z, k), h .moves ∙ rw (z, k))
 
-    pub refused : {a : A.Answer} → r .code ≢ 0 → a ≡ refusal (r .code) (r .at) → Replayed a left′ right′
+    pub refused : {a : A.Answer} → r .code ≢ 0 → a ≡ fileRefusal (r .code) (r .at) → Replayed a left′ right′
     refused {a} c e = go (sized left right) (readOf bytes) refl refl
       where
         go : (t : Bool) (x : Reading) → sized left right ≡ t → readOf bytes ≡ x → Replayed a left′ right′
@@ -108,8 +101,8 @@ module _ (bytes left right : List ℕ) where
         go true (fault m n) t k = let u = un-read t k in like (e ∙ as-refused (u .0)) (u .1) (u .2) (not-read t k)
         go true (read f) t k = absurd (c (ap (λ x. x .code) (is-read f t k .0) ∙ read-code f))
 
-    pub ran : {a : A.Answer} {l u : List ℕ} → r .code ≡ 0 → a ≡ runAnswer ds′ left′ (r .left) right′ (r .right) steps′ (r .steps) → l ≡ leftAfter ds′ left′ (r .left) right′ (r .right) steps′ (r .steps)
-        → u ≡ rightAfter ds′ left′ (r .left) right′ (r .right) steps′ (r .steps) → Replayed a l u
+    pub ran : {a : A.Answer} {l u : List ℕ} → r .code ≡ 0 → let d = lent ds′ left′ (r .left) right′ (r .right) steps′ (r .steps) in
+        a ≡ runAnswer d → l ≡ leftAfter d → u ≡ rightAfter d → Replayed a l u
     ran {a} {l} {u} c e p q = go (sized left right) (readOf bytes) refl refl
       where
         go : (t : Bool) (x : Reading) → sized left right ≡ t → readOf bytes ≡ x → Replayed a l u

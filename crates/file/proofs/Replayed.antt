@@ -9,12 +9,11 @@ use lib.ListN.{length}
 use Rattle.term.specs.Terms.{maxWords}
 use Rattle.format.specs.Files.{File, Written}
 use Rattle.format.specs.Reading.{Reading, fault, read, readOf}
-use Rattle.format.specs.Kept.{declarationsOf, padded, stepsOf}
 use Rattle.format.proofs.Whole.{reads}
 use Rattle.lent.proofs.Judging.{not-both}
 use Rattle.step.proofs.RunTheorems.{decides}
-use Rattle.file.specs.Replays.{refusal, runOfFile, leftOfFile, rightOfFile, answered, slice, sized, replayAnswer, leftReplayed, rightReplayed}
-use Rattle.file.specs.Files.{Sized, Decision, wrong-size, unread, replayed}
+use Rattle.file.specs.Replays.{fileRefusal, derivationOf, runOfFile, leftOfFile, rightOfFile, answered, slice, sized, replayAnswer, leftReplayed, rightReplayed}
+use Rattle.file.specs.Files.{Sized, FileDecision, wrong-size, unread, replayed}
 use Rattle.format.proofs.Codes.{fault-code}
 
 sized-of : (left right : List ℕ) → Sized left right → sized left right ≡ true
@@ -27,7 +26,7 @@ of-sized left right e = let p = and-eq-true-iff (eqb (length left) maxWords) (eq
 
 -- by the outcome of the test and of the reading
 module _ (bytes left right : List ℕ) (b : Bool) (r : Reading) (s : sized left right ≡ b) (e : readOf bytes ≡ r) where
-  answer-by : replayAnswer bytes left right ≡ cond b (answered r) (refusal 1 0)
+  answer-by : replayAnswer bytes left right ≡ cond b (answered r) (fileRefusal 1 0)
   unfolding replayAnswer
   answer-by = rw (← s, ← e)
 
@@ -42,15 +41,14 @@ module _ (bytes left right : List ℕ) (b : Bool) (r : Reading) (s : sized left 
 module _ (bytes left right : List ℕ) where
   -- every answer
   decided-by : (b : Bool) (r : Reading) → sized left right ≡ b → readOf bytes ≡ r
-      → Decision bytes left right (cond b (answered r) (refusal 1 0)) (cond b (slice r leftOfFile) left) (cond b (slice r rightOfFile) right)
+      → FileDecision bytes left right (cond b (answered r) (fileRefusal 1 0)) (cond b (slice r leftOfFile) left) (cond b (slice r rightOfFile) right)
   unfolding answered slice
   decided-by false r s e = wrong-size (λ h. not-both s (sized-of left right h))
   decided-by true (fault c n) s e = let k = fault-code bytes e in unread (of-sized left right s) e (k .0) (k .1)
   decided-by true (read f) s e =
-      replayed (of-sized left right s) (reads bytes f .0 e)
-      (decides (declarationsOf f) (padded (f .left)) (length (f .left)) (padded (f .right)) (length (f .right)) (stepsOf f) (length (f .steps)))
+      replayed (of-sized left right s) (reads bytes f .0 e) (decides (derivationOf f))
 
-  pub decided : Decision bytes left right (replayAnswer bytes left right) (leftReplayed bytes left right) (rightReplayed bytes left right)
+  pub decided : FileDecision bytes left right (replayAnswer bytes left right) (leftReplayed bytes left right) (rightReplayed bytes left right)
   decided = rw (answer-by bytes left right _ _ refl refl, left-by bytes left right _ _ refl refl, right-by bytes left right _ _ refl refl) (decided-by _ _ refl refl)
 
   -- a file of the form

@@ -14,7 +14,7 @@ use Rattle.meaning.specs.Sorted.{Fits, EveryChoice, EqualNumbers}
 use Rattle.declarations.specs.Declarations.{contextIn, goodDeclarations}
 use Rattle.rules.specs.Steps.{Sides}
 use Rattle.lent.specs.declared.steps.Step.{Step}
-use Rattle.lent.specs.Lent.{movesIn}
+use Rattle.lent.specs.Lent.{Derivation, movesIn}
 use Rattle.format.specs.Files.{File, contextOf, Written}
 use Rattle.format.specs.Kept.{declarationsOf, stepsOf}
 use Rattle.step.specs.declared.run.Answer as A
@@ -23,34 +23,33 @@ use Rattle.step.specs.Runs.{runAnswer, leftAfter, rightAfter}
 use Rattle.step.specs.Statements.{Lists}
 use Rattle.step.specs.Alike.{Alike}
 use Rattle.file.specs.Replays.{replayAnswer, leftReplayed, rightReplayed}
-use Rattle.file.specs.Files.{TypedSide, Accepted, LateCode, PastTypes, RunDecides, Sized, Decision}
+use Rattle.file.specs.Files.{TypedSide, AcceptedFile, LateCode, PastTypes, RunDecides, Sized, FileDecision}
 
 -- ---- Demand 1
 -- "each word behind the end of a term is zero"; where there is no term its length is 0
 abbrev pub ZerosBehind : ℕ → List ℕ → Type 0
 ZerosBehind n ws = drop n ws ≡ replicate (length ws - n) 0
 
--- "A derivation file, whatever it holds and however it is cut off, is accepted or refused, with the number, side, step and place that document 01 fixes. No entry relies on its caller having looked first.
+-- "A derivation file, whatever it holds and however it is cut off, is accepted or refused, with the number, side, step and place that document 01 fixes. No entry relies on its caller
+-- having looked first.
 -- After every replay or single step each word behind the end of a term is zero, unless the lent buffers were refused for their size, and then they are untouched."
 -- No entry has a `requires`. The run of lent steps writes two slices as well, and the same is said of it.
 pub record Demand1 : Type 0 where
-  pub answered : (bytes left right : List ℕ) → Decision bytes left right (replayAnswer bytes left right) (leftReplayed bytes left right) (rightReplayed bytes left right)
+  pub answered : (bytes left right : List ℕ) → FileDecision bytes left right (replayAnswer bytes left right) (leftReplayed bytes left right) (rightReplayed bytes left right)
   pub replay-zeros : (bytes left right : List ℕ) → replayAnswer bytes left right .code ≢ 1
       → ZerosBehind (replayAnswer bytes left right .left) (leftReplayed bytes left right) × ZerosBehind (replayAnswer bytes left right .right) (rightReplayed bytes left right)
   pub replay-untouched : (bytes left right : List ℕ) → replayAnswer bytes left right .code ≡ 1 → (leftReplayed bytes left right ≡ left) × (rightReplayed bytes left right ≡ right)
   pub step-zeros : (ds ws : List ℕ) (n : ℕ) (s : Step) → answerTo ds ws n s .code ≢ 1 → ZerosBehind (answerTo ds ws n s .length) (wordsLeft ds ws n s)
   pub step-untouched : (ds ws : List ℕ) (n : ℕ) (s : Step) → answerTo ds ws n s .code ≡ 1 → wordsLeft ds ws n s ≡ ws
-  pub run-zeros : (ds left : List ℕ) (n : ℕ) (right : List ℕ) (m : ℕ) (steps : List ℕ) (count : ℕ) → runAnswer ds left n right m steps count .code ≢ 1
-      → ZerosBehind (runAnswer ds left n right m steps count .left) (leftAfter ds left n right m steps count)
-      × ZerosBehind (runAnswer ds left n right m steps count .right) (rightAfter ds left n right m steps count)
-  pub run-untouched : (ds left : List ℕ) (n : ℕ) (right : List ℕ) (m : ℕ) (steps : List ℕ) (count : ℕ) → runAnswer ds left n right m steps count .code ≡ 1
-      → (leftAfter ds left n right m steps count ≡ left) × (rightAfter ds left n right m steps count ≡ right)
+  pub run-zeros : (d : Derivation) → runAnswer d .code ≢ 1 → ZerosBehind (runAnswer d .left) (leftAfter d) × ZerosBehind (runAnswer d .right) (rightAfter d)
+  pub run-untouched : (d : Derivation) → runAnswer d .code ≡ 1 → (leftAfter d ≡ d .left) × (rightAfter d ≡ d .right)
 
 -- ---- Demand 2
 -- "A file of document 01's form is accepted exactly when both terms have one and the same type, .. each step is an instance of its numbered rule, .. and the two terms then agree. Otherwise the first
--- fault in document 01's order is named." `Decision` of demand 1 has the faults before these; of a file of the form the run's own decision is named, over the declarations and steps that it writes down
+-- fault in document 01's order is named." `FileDecision` of demand 1 has the faults before these; of a file of the form the run's own decision is named, over the declarations and steps
+-- that it writes down
 pub record Demand2 : Type 0 where
-  pub accepts : (bytes left right : List ℕ) → Sized left right → (replayAnswer bytes left right .code ≡ 0) ↔ Accepted bytes
+  pub accepts : (bytes left right : List ℕ) → Sized left right → (replayAnswer bytes left right .code ≡ 0) ↔ AcceptedFile bytes
   pub otherwise : (bytes left right : List ℕ) (f : File) → Sized left right → Written bytes f
       → RunDecides f (replayAnswer bytes left right) (leftReplayed bytes left right) (rightReplayed bytes left right)
   pub codes : (bytes left right : List ℕ) (f : File) → Sized left right → Written bytes f → LateCode (replayAnswer bytes left right .code)
@@ -70,7 +69,7 @@ pub record Ends (bytes : List ℕ) (a : A.Answer) (l r : List ℕ) : Type 0 wher
   pub left-slice : (l ≡ held (end .left)) × (a .left ≡ length (words (end .left)))
   pub right-slice : (r ≡ held (end .right)) × (a .right ≡ length (words (end .right)))
 
-pub record Kept (bytes left right : List ℕ) : Type 1 where
+pub record FileKept (bytes left right : List ℕ) : Type 1 where
   pub ends : Ends bytes (replayAnswer bytes left right) (leftReplayed bytes left right) (rightReplayed bytes left right)
   pub left-alike : Alike (contextOf (ends .file)) (ends .sort) (ends .start .left) (ends .end .left)
   pub right-alike : Alike (contextOf (ends .file)) (ends .sort) (ends .start .right) (ends .end .right)
@@ -83,8 +82,8 @@ pub record Kept (bytes left right : List ℕ) : Type 1 where
 pub record Demand3 : Type 1 where
   pub chooses : (bytes : List ℕ) (f : File) → Written bytes f → EveryChoice gaussian (contextOf f)
   pub chooses-lent : (ds : List ℕ) → goodDeclarations ds ≡ true → EveryChoice gaussian (contextIn ds)
-  pub proves : (bytes : List ℕ) (a : Accepted bytes) → Alike (contextOf (a .file)) (a .sort) (a .start .left) (a .start .right)
-  pub keeps : (bytes left right : List ℕ) → PastTypes (replayAnswer bytes left right .code) → Kept bytes left right
+  pub proves : (bytes : List ℕ) (a : AcceptedFile bytes) → Alike (contextOf (a .file)) (a .sort) (a .start .left) (a .start .right)
+  pub keeps : (bytes left right : List ℕ) → PastTypes (replayAnswer bytes left right .code) → FileKept bytes left right
   pub lists : Lists
 
 -- ---- the same of one call, as far as a clause of the entry's contract can say it
@@ -94,7 +93,7 @@ Behind left right a l r = (a .code ≢ 1 → ZerosBehind (a .left) l × ZerosBeh
 
 -- demand 2: accepted exactly when
 abbrev pub Exactly : List ℕ → List ℕ → List ℕ → A.Answer → Type 0
-Exactly bytes left right a = Sized left right → (a .code ≡ 0) ↔ Accepted bytes
+Exactly bytes left right a = Sized left right → (a .code ≡ 0) ↔ AcceptedFile bytes
 
 -- demand 2: otherwise the first fault is named, of a file of the form
 abbrev pub Named : List ℕ → List ℕ → List ℕ → A.Answer → List ℕ → List ℕ → Type 0
@@ -106,7 +105,7 @@ EqualTerms f t u = (χ : Choice Gaussian) → Fits gaussian (contextOf f) χ →
 
 -- of an accepted file's two terms
 abbrev pub EqualSides : List ℕ → Type 0
-EqualSides bytes = (a : Accepted bytes) → EqualTerms (a .file) (a .start .left) (a .start .right)
+EqualSides bytes = (a : AcceptedFile bytes) → EqualTerms (a .file) (a .start .left) (a .start .right)
 
 -- and of each side's term and what is left of it
 abbrev pub EqualEnds : List ℕ → A.Answer → List ℕ → List ℕ → Type 0

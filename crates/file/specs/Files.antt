@@ -11,12 +11,11 @@ use Rattle.types.specs.Rules.{_⊢_∶_}
 use Rattle.text.specs.Pieces.{Text}
 use Rattle.format.specs.Files.{File, namesOf, contextOf, Written}
 use Rattle.format.specs.Reading.{fault, readOf}
-use Rattle.format.specs.Kept.{declarationsOf, padded, stepsOf}
 use Rattle.rules.specs.Steps.{Sides}
 use Rattle.step.specs.declared.run.Answer as A
 use Rattle.step.specs.Derivations as D
 use Rattle.step.specs.Derivations.{AllTaken}
-use Rattle.file.specs.Replays.{refusal}
+use Rattle.file.specs.Replays.{fileRefusal, derivationOf}
 
 -- a side of a file: the term that its words are, with a type by the published rules under what the file declares
 pub record TypedSide (f : File) (ws : List ℕ) (t : Tree) (S : Sort) : Type 0 where
@@ -27,7 +26,7 @@ pub record TypedSide (f : File) (ws : List ℕ) (t : Tree) (S : Sort) : Type 0 w
 
 -- Demand 2: "both terms have one and the same type, that of a scalar, ket, bra or operator, by the published typing rules within document 01's index limit, each step is an instance of its
 -- numbered rule, published or document 01's swap, at its place and stays inside the limits, and the two terms then agree"
-pub record Accepted (bytes : Text) : Type 0 where
+pub record AcceptedFile (bytes : Text) : Type 0 where
   pub file : File
   pub written : Written bytes file
   pub start : Sides
@@ -52,14 +51,14 @@ PastTypes c = (c ≡ 0) ⊎ (20 ≤ c)
 
 -- what a run of the file's own words decides, with the two slices that it leaves
 abbrev pub RunDecides : File → A.Answer → List ℕ → List ℕ → Type 0
-RunDecides f = D.Decision (declarationsOf f) (padded (f .left)) (length (f .left)) (padded (f .right)) (length (f .right)) (stepsOf f) (length (f .steps))
+RunDecides f = D.Decision (derivationOf f)
 
 -- both slices of 4,096 words
 abbrev pub Sized : List ℕ → List ℕ → Type 0
 Sized left right = (length left ≡ maxWords) × (length right ≡ maxWords)
 
 -- Every answer, with the two slices that it leaves: 1; the first fault of the bytes and lines, 2 to 9; or, for a file of the form, what its run decides
-pub data Decision (bytes left right : List ℕ) : A.Answer → List ℕ → List ℕ → Type 0 where
-  wrong-size : (Sized left right → ⊥) → Decision bytes left right (refusal 1 0) left right
-  unread : {c n : ℕ} → Sized left right → readOf bytes ≡ fault c n → 2 ≤ c → c ≤ 9 → Decision bytes left right (refusal c n) (replicate maxWords 0) (replicate maxWords 0)
-  replayed : {f : File} {a : A.Answer} {l r : List ℕ} → Sized left right → Written bytes f → RunDecides f a l r → Decision bytes left right a l r
+pub data FileDecision (bytes left right : List ℕ) : A.Answer → List ℕ → List ℕ → Type 0 where
+  wrong-size : (Sized left right → ⊥) → FileDecision bytes left right (fileRefusal 1 0) left right
+  unread : {c n : ℕ} → Sized left right → readOf bytes ≡ fault c n → 2 ≤ c → c ≤ 9 → FileDecision bytes left right (fileRefusal c n) (replicate maxWords 0) (replicate maxWords 0)
+  replayed : {f : File} {a : A.Answer} {l r : List ℕ} → Sized left right → Written bytes f → RunDecides f a l r → FileDecision bytes left right a l r

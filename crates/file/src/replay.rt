@@ -1,29 +1,19 @@
 // The replay of a derivation's file, for a caller who lends its bytes and two work slices. Nothing is relied on.
+use lent::faults::Fault;
 use reader::files::read_file;
 use step::run::Answer;
+use step::run::refused_with;
 use step::run::run_steps;
 ghost use mathlib.Core.Path.{_≡_};
-ghost use Rattle.file.specs.Replays.{refusal, replayAnswer, leftReplayed, rightReplayed};
+ghost use Rattle.file.specs.Replays.{replayAnswer, leftReplayed, rightReplayed};
 ghost use Rattle.file.specs.Demands.{Behind, Exactly, Named, EqualSides, EqualEnds};
-
-fn refused_with(code: usize, at: usize) -> Answer
-    ensures { λ r. ⌜ r ≡ refusal code at ⌝ }
-{
-    Answer {
-        code,
-        side: 0,
-        step: 0,
-        at,
-        left: 0,
-        right: 0,
-    }
-}
 
 // Replays a file in two work slices. Code 1 leaves both as they are, 2 to 12 leave zeros; else they hold the two terms that are left, with zeros behind, whatever stood there
 // before.
 pub fn replay(bytes: &[u8], left: &mut [u16], right: &mut [u16]) -> Answer
     ensures answer { λ r. ⌜ r ≡ replayAnswer (now (bytes .entry)) (now (left .entry)) (now (right .entry)) ⌝ }
-    ensures slices { λ r. ⌜ (now (left .exit) ≡ leftReplayed (now (bytes .entry)) (now (left .entry)) (now (right .entry))) × (now (right .exit) ≡ rightReplayed (now (bytes .entry)) (now (left .entry)) (now (right .entry))) ⌝ }
+    ensures slices { λ r. ⌜ (now (left .exit) ≡ leftReplayed (now (bytes .entry)) (now (left .entry)) (now (right .entry)))
+        × (now (right .exit) ≡ rightReplayed (now (bytes .entry)) (now (left .entry)) (now (right .entry))) ⌝ }
     ensures demand1 { λ r. ⌜ Behind (now (left .entry)) (now (right .entry)) r (now (left .exit)) (now (right .exit)) ⌝ }
     ensures demand2 { λ r. ⌜ Exactly (now (bytes .entry)) (now (left .entry)) (now (right .entry)) r ⌝ }
     ensures otherwise { λ r. ⌜ Named (now (bytes .entry)) (now (left .entry)) (now (right .entry)) r (now (left .exit)) (now (right .exit)) ⌝ }
@@ -34,7 +24,11 @@ pub fn replay(bytes: &[u8], left: &mut [u16], right: &mut [u16]) -> Answer
     let mut steps = [0u16; 8000];
     let read = read_file(bytes, &mut ds, left, right, &mut steps);
     if read.code != 0 {
-        return refused_with(read.code, read.at);
+        return refused_with(Fault {
+            code: read.code,
+            side: 0,
+            at: read.at,
+        });
     }
     run_steps(&ds, left, read.left, right, read.right, &steps, read.steps)
 }

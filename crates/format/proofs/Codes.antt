@@ -15,7 +15,8 @@ use Rattle.text.specs.Pieces.{Text, space, parted, linesOf}
 use Rattle.text.specs.Numbers.{numberIn, atMost}
 use Rattle.text.specs.Tokens.{tokensIn}
 use Rattle.format.specs.Files.{Variable, File, Key, Types, Basis, Var, LeftTerm, RightTerm, Step, End, Other, namesOf, maxBytes}
-use Rattle.format.specs.Reading.{Line, wrong, good, Reading, fault, read, fits, full, keyOf, takeTypes, takeBasis, takeVariable, takeTerm, takeStep, takeEnd, takeValue, andLeft, andRight, variableIn, moveIn, keyLine, lineOf, onLine, stageAfter, readFrom, nothing, readOf}
+use Rattle.format.specs.Reading.{Line, wrong, good, Reading, fault, read, fits, full, keyOf, takeTypes, takeBasis, takeVariable, takeTerm}
+use Rattle.format.specs.Reading.{takeStep, takeEnd, takeValue, andLeft, andRight, variableIn, moveIn, keyLine, lineTaken, onLine, stageAfter, readFrom, nothing, readOf}
 
 pub data Marked : Line → Type 0 where
   marked : (c : ℕ) → (2 ≤ c) × (c ≤ 9) → Marked (wrong c)
@@ -76,8 +77,8 @@ module _ (f : File) where
   unfolding keyLine
   key-line k stage v = either (fits k stage) (either (full k f) (marked 6 (omega arith)) (value k v)) (marked 4 (omega arith))
 
-  pub line : (stage : ℕ) (l : Text) → Marked (lineOf stage f l)
-  unfolding lineOf
+  pub line : (stage : ℕ) (l : Text) → Marked (lineTaken stage f l)
+  unfolding lineTaken
   line stage l = key-line (keyOf l) stage _
 
 -- ---- the file

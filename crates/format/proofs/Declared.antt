@@ -16,7 +16,7 @@ use Rattle.declarations.specs.Put.{started, room, basisPut, variablePut}
 use Rattle.declarations.proofs.Entries.{declarations}
 use Rattle.declarations.proofs.Kept.{started-good, started-types, started-none, basis-put-kept, basis-put-good, variable-put-kept, variable-put-good}
 use Rattle.declarations.proofs.Grown.{withBasis, withVariable, started-context, basis-context, variable-context}
-use Rattle.format.specs.Files.{Variable, File, namesOf, allIndices, allVariables, Sound, contextOf}
+use Rattle.format.specs.Files.{Variable, File, namesOf, allIndices, allVariables, WellDeclared, contextOf}
 use Rattle.format.specs.Kept.{putBases, putVariables, declarationsOf}
 
 -- ---- one name more
@@ -126,14 +126,14 @@ pub record Declared (ds : List ℕ) (f : File) : Type 0 where
   pub variables : getD ds 2 0 ≡ length (f .variables)
   pub context : contextIn ds ≡ contextOf f
 
-declared-from : (ds : List ℕ) (f : File) → length ds ≡ size → Sound f → Declared (putVariables (putBases (started ds (f .types)) (f .bases)) (f .variables)) f
+declared-from : (ds : List ℕ) (f : File) → length ds ≡ size → WellDeclared f → Declared (putVariables (putBases (started ds (f .types)) (f .bases)) (f .variables)) f
 unfolding contextOf
 declared-from ds f l s =
     let b = all-bases (f .bases) (begun ds (f .types) l (s .few-types)) (omega arith) (s .bases) in
     let v = all-variables (f .variables) b (omega arith) (s .variables) in
     record { good = v .good; types = v .types; bases = v .bases ∙ (omega arith); variables = v .variables ∙ (omega arith); context = v .context }
 
-module _ (f : File) (s : Sound f) where
+module _ (f : File) (s : WellDeclared f) where
   pub declared : Declared (declarationsOf f) f
   unfolding declarationsOf
   declared = declared-from (replicate size 0) f (length-replicate {A = ℕ} size 0) s

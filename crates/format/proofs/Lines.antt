@@ -10,7 +10,7 @@ use lib.ListN.{length, drop}
 use lib.Seq.{drop-append-seam}
 use Rattle.text.specs.Pieces.{Text, starts}
 use Rattle.format.specs.Files.{Key, Types, Basis, Var, LeftTerm, RightTerm, Step, End, Other, File, keyText}
-use Rattle.format.specs.Reading.{firstKey, keyOf, fits, stageAfter, full, wrong, good, takeValue, keyLine, lineOf}
+use Rattle.format.specs.Reading.{firstKey, keyOf, fits, stageAfter, full, wrong, good, takeValue, keyLine, lineTaken}
 use Rattle.format.proofs.Values.{Value, types, basis, variable, left, right, step, end, value-taken, taken-value}
 
 -- ---- a line is its key with what is behind
@@ -91,8 +91,8 @@ fits-fit Other s e = absurd (let z : _≡_ {A = ℕ} 0 1 = cc in omega arith)
 pub data Taken : ℕ → File → Text → ℕ → File → Type 0 where
   taken : {s : ℕ} {k : Key} {f g : File} {v : Text} → Fit k s → full k f ≡ false → Value k f v g → Taken s f (keyText k ++ v) (stageAfter k) g
 
-pub taken-line : {s t : ℕ} {f g : File} {l : Text} → Taken s f l t g → (lineOf s f l ≡ good g) × (stageAfter (keyOf l) ≡ t)
-unfolding lineOf keyLine
+pub taken-line : {s t : ℕ} {f g : File} {l : Text} → Taken s f l t g → (lineTaken s f l ≡ good g) × (stageAfter (keyOf l) ≡ t)
+unfolding lineTaken keyLine
 taken-line (taken {k} {v} h n x) = (rw (value-key x, fit-fits h, n, drop-append-seam) (value-taken x), ap stageAfter (value-key x))
 
 pub key-taken : (k : Key) (s : ℕ) (f : File) (v : Text) (g : File) → keyLine k s f v ≡ good g → Taken s f (keyText k ++ v) (stageAfter k) g
@@ -104,8 +104,8 @@ key-taken k s f v g e = by (fits k s) (full k f) refl refl e
     by true true p q e = absurd (let z : _≡_ {A = ℕ} 0 1 = cc in omega arith)
     by false u p q e = absurd (let z : _≡_ {A = ℕ} 0 1 = cc in omega arith)
 
-pub line-taken : (s : ℕ) (f : File) (l : Text) (g : File) → lineOf s f l ≡ good g → Taken s f l (stageAfter (keyOf l)) g
-unfolding lineOf
+pub line-taken : (s : ℕ) (f : File) (l : Text) (g : File) → lineTaken s f l ≡ good g → Taken s f l (stageAfter (keyOf l)) g
+unfolding lineTaken
 line-taken s f l g e = go (keyed-line l) e
   where
     go : {l : Text} {k : Key} → Keyed l k → keyLine k s f (drop (length (keyText k)) l) ≡ good g → Taken s f l (stageAfter k) g

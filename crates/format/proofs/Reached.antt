@@ -12,7 +12,7 @@ use Rattle.rules.specs.Steps.{Move}
 use Rattle.lent.specs.Lent.{maxSteps}
 use Rattle.text.specs.Pieces.{Text}
 use Rattle.text.specs.Numbers.{decimal}
-use Rattle.format.specs.Files.{Types, Basis, Var, Step, Variable, File, keyText, header, lines, namesOf, allIndices, allVariables, isStep, allSteps, Sound, InOrder}
+use Rattle.format.specs.Files.{Types, Basis, Var, Step, Variable, File, keyText, header, lines, namesOf, allIndices, allVariables, isStep, allSteps, WellDeclared, InOrder}
 use Rattle.format.specs.Code.Reached.{basisLine, variableLine, leftLine, rightLine, stepLine, stepLines, Reached, start, bases, variables, left-side, steps, done}
 use Rattle.format.specs.Reading.{full, nothing, andBasis, andVariable, andLeft, andRight, andStep}
 use Rattle.format.proofs.Declared.{indices-more, variables-good-more}
@@ -26,12 +26,12 @@ with-types : (n : ℕ) → n ≤ maxNames → Reached 1 (andTypes nothing n) ((k
 unfolding header allIndices allVariables
 with-types n h = bases {f = andTypes nothing n} (record { few-types = h; few-bases = omega arith; bases = refl; few-variables = omega arith; variables = refl }) refl refl
 
-module _ (f : File) (d : Sound f) where
+module _ (f : File) (d : WellDeclared f) where
   with-basis : (b : List ℕ) → f .variables ≡ [] → f .steps ≡ [] → full Basis f ≡ false → isIndex (f .types) b ≡ true
       → Reached 1 (andBasis f b) (header f ++ basisLine b ∷ [])
   unfolding full
   with-basis b v s n h =
-      let x : Sound (andBasis f b) = record {
+      let x : WellDeclared (andBasis f b) = record {
         few-types = d .few-types;
         few-bases = one-more (f .bases) b maxNames (d .few-bases) (eqb-false _ _ n);
         bases = indices-more (f .types) (f .bases) b (d .bases) h;
@@ -44,7 +44,7 @@ module _ (f : File) (d : Sound f) where
       → Reached 2 (andVariable f v) (header f ++ variableLine v ∷ [])
   unfolding full
   with-variable v s n h =
-      let x : Sound (andVariable f v) = record {
+      let x : WellDeclared (andVariable f v) = record {
         few-types = d .few-types;
         few-bases = d .few-bases;
         bases = d .bases;

@@ -8,7 +8,7 @@ use borrow.Author.Tests.{eqb-true, eq-eqb}
 use lib.Dec.{eqb}
 use Rattle.text.specs.Pieces.{Text}
 use Rattle.format.specs.Files.{File}
-use Rattle.format.specs.Reading.{keyOf, stageAfter, Line, wrong, good, lineOf, fault, read, onLine, readFrom}
+use Rattle.format.specs.Reading.{keyOf, stageAfter, Line, wrong, good, lineTaken, fault, read, onLine, readFrom}
 use Rattle.format.proofs.Lines.{Taken, taken-line, line-taken}
 
 pub data Run : ℕ → File → List Text → ℕ → File → Type 0 where
@@ -27,9 +27,9 @@ read-run n s f [] g e = go (eqb s 5) refl e
     go : (t : Bool) → eqb s 5 ≡ t → cond t (read f) (fault 4 n) ≡ read g → Run s f [] 5 g
     go true p e = let z : f ≡ g = cc in rw (eqb-true s 5 p, z) stop
     go false p e = absurd (let z : _≡_ {A = ℕ} 0 1 = cc in omega arith)
-read-run n s f (l ∷ ls) g e = go (lineOf s f l) refl (λ h. read-run (n + 1) (stageAfter (keyOf l)) h ls g) e
+read-run n s f (l ∷ ls) g e = go (lineTaken s f l) refl (λ h. read-run (n + 1) (stageAfter (keyOf l)) h ls g) e
   where
-    go : (x : Line) → lineOf s f l ≡ x → ((h : File) → readFrom (n + 1) (stageAfter (keyOf l)) h ls ≡ read g → Run (stageAfter (keyOf l)) h ls 5 g)
+    go : (x : Line) → lineTaken s f l ≡ x → ((h : File) → readFrom (n + 1) (stageAfter (keyOf l)) h ls ≡ read g → Run (stageAfter (keyOf l)) h ls 5 g)
         → onLine x (λ c. fault c n) (λ h. readFrom (n + 1) (stageAfter (keyOf l)) h ls) ≡ read g → Run s f (l ∷ ls) 5 g
     go (wrong c) p r e = absurd (let z : _≡_ {A = ℕ} 0 1 = cc in omega arith)
     go (good h) p r e = more (line-taken s f l h p) (r h e)

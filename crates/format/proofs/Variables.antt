@@ -18,7 +18,7 @@ use Rattle.text.specs.Pieces.{Text, space}
 use Rattle.text.specs.Tokens.{spaced, tokens, tokensIn}
 use Rattle.text.proofs.Written.{allKnown, some-tokens, tokens-written}
 use Rattle.format.specs.Files.{Variable, letter, variableText}
-use Rattle.format.specs.Reading.{kindOf, wordsBehind, variableOf, variableIn}
+use Rattle.format.specs.Reading.{kindOfLetter, wordsBehind, variableOf, variableIn}
 use Rattle.format.proofs.Known.{Told, index-told, told-read, part-whole, known-append}
 
 empty : (xs : List ℕ) → length xs ≡ 0 → xs ≡ []
@@ -61,14 +61,14 @@ both-told xs ys h k =
 -- ---- read
 module _ (N : ℕ) (xs ys : List ℕ) where
   abbrev Read : ℕ → Type 0
-  Read k = variableOf (kindOf (letter k)) (wordsBehind (spaced (xs ++ ys))) ≡ some (record { kind = k; first = xs; second = ys })
+  Read k = variableOf (kindOfLetter (letter k)) (wordsBehind (spaced (xs ++ ys))) ≡ some (record { kind = k; first = xs; second = ys })
 
-  one-read : (k : ℕ) → kindOf (letter k) ≡ some k → eqb k 3 ≡ false → Told xs → ys ≡ [] → Read k
+  one-read : (k : ℕ) → kindOfLetter (letter k) ≡ some k → eqb k 3 ≡ false → Told xs → ys ≡ [] → Read k
   unfolding variableOf
   one-read k e n h z = rw (e, z, append-nil, behind-read xs h, n, take-length, drop-length)
 
   kind-read : (k : ℕ) → isVariable N k xs ys ≡ true → Read k
-  unfolding kindOf variableOf wordsBehind spaced
+  unfolding kindOfLetter variableOf wordsBehind spaced
   kind-read zero e = let t = variable-tests N 0 xs ys e in rw (empty xs (eqb-true _ _ (t .1)), empty ys (eqb-true _ _ (t .2)))
   kind-read (suc zero) e = let t = variable-tests N 1 xs ys e in one-read 1 refl refl (index-told N xs (t .1)) (empty ys (eqb-true _ _ (t .2)))
   kind-read (suc (suc zero)) e = let t = variable-tests N 2 xs ys e in one-read 2 refl refl (index-told N xs (t .1)) (empty ys (eqb-true _ _ (t .2)))
@@ -94,8 +94,8 @@ variable-known N k xs ys e =
     let t = variable-tests N k xs ys e in
     known-append xs ys (wanted-known N xs (eqb k 0) (t .1)) (wanted-known N ys (not (eqb k 3)) (sym (turned (eqb k 3) _ _) ∙ t .2))
 
-kind-letter : (b k : ℕ) → kindOf b ≡ some k → b ≡ letter k
-unfolding kindOf
+kind-letter : (b k : ℕ) → kindOfLetter b ≡ some k → b ≡ letter k
+unfolding kindOfLetter
 kind-letter b k e = go (eqb b 83) (eqb b 75) (eqb b 66) (eqb b 79) refl refl refl refl e
   where
     is : (m : ℕ) → some m ≡ some k → b ≡ letter m → b ≡ letter k
@@ -119,9 +119,9 @@ made k ws v e =
 pub variable-written : (N : ℕ) (s : Text) (v : Variable) → variableIn s ≡ some v → isVariable N (v .kind) (v .first) (v .second) ≡ true → s ≡ variableText v
 unfolding variableIn variableText variableOf
 variable-written N [] v e h = cc
-variable-written N (b ∷ bs) v e h = go (kindOf b) (wordsBehind bs) refl refl e
+variable-written N (b ∷ bs) v e h = go (kindOfLetter b) (wordsBehind bs) refl refl e
   where
-    go : (o : Option ℕ) (os : Option (List ℕ)) → kindOf b ≡ o → wordsBehind bs ≡ os → variableOf o os ≡ some v
+    go : (o : Option ℕ) (os : Option (List ℕ)) → kindOfLetter b ≡ o → wordsBehind bs ≡ os → variableOf o os ≡ some v
         → b ∷ bs ≡ letter (v .kind) ∷ spaced (v .first ++ v .second)
     go none os p q e = cc
     go (some k) none p q e = cc

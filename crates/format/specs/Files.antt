@@ -117,12 +117,12 @@ pub record DeclaredBy (N : ℕ) (bs : List (List ℕ)) (vs : List Variable) : Ty
   pub few-variables : length vs ≤ maxNames
   pub variables : allVariables N vs ≡ true
 
-abbrev pub Sound : File → Type 0
-Sound f = DeclaredBy (f .types) (f .bases) (f .variables)
+abbrev pub WellDeclared : File → Type 0
+WellDeclared f = DeclaredBy (f .types) (f .bases) (f .variables)
 
 -- so declared, each side a term (8), and steps within the limits
 pub record InOrder (f : File) : Type 0 where
-  pub declared : Sound f
+  pub declared : WellDeclared f
   pub left : termWords (namesOf f) (f .left) ≡ true
   pub right : termWords (namesOf f) (f .right) ≡ true
   pub few-steps : length (f .steps) ≤ maxSteps

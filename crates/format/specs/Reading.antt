@@ -64,8 +64,8 @@ full Other f = false
 
 -- ---- values
 -- "var=S, var=K INDEX, var=B INDEX or var=O INDEX INDEX": the tokens stand behind the letter, each behind a space
-unfoldable pub kindOf : ℕ → Option ℕ
-kindOf b = cond (eqb b 83) (some 0) (cond (eqb b 75) (some 1) (cond (eqb b 66) (some 2) (cond (eqb b 79) (some 3) none)))
+unfoldable pub kindOfLetter : ℕ → Option ℕ
+kindOfLetter b = cond (eqb b 83) (some 0) (cond (eqb b 75) (some 1) (cond (eqb b 66) (some 2) (cond (eqb b 79) (some 3) none)))
 
 unfoldable pub wordsBehind : Text → Option (List ℕ)
 unfolding tokensIn
@@ -82,9 +82,9 @@ variableOf (some kind) (some ws) =
     some (record { kind = kind; first = take n ws; second = drop n ws })
 
 unfoldable pub variableIn : Text → Option Variable
-unfolding variableOf kindOf wordsBehind
+unfolding variableOf kindOfLetter wordsBehind
 variableIn [] = none
-variableIn (b ∷ bs) = variableOf (kindOf b) (wordsBehind bs)
+variableIn (b ∷ bs) = variableOf (kindOfLetter b) (wordsBehind bs)
 
 unfoldable pub sideIn : Text → Option Side
 sideIn s = cond (eqb (length s) 1) (cond (eqb (getD s 0 0) 76) (some Left) (cond (eqb (getD s 0 0) 82) (some Right) none)) none
@@ -169,9 +169,9 @@ unfoldable pub keyLine : Key → ℕ → File → Text → Line
 unfolding fits full takeValue
 keyLine key stage f value = cond (fits key stage) (cond (full key f) (wrong 6) (takeValue key f value)) (wrong 4)
 
-unfoldable pub lineOf : ℕ → File → Text → Line
+unfoldable pub lineTaken : ℕ → File → Text → Line
 unfolding keyOf keyLine
-lineOf stage f l = let key = keyOf l in keyLine key stage f (drop (length (keyText key)) l)
+lineTaken stage f l = let key = keyOf l in keyLine key stage f (drop (length (keyText key)) l)
 
 -- a code with its line, or what the file says
 pub data Reading : Type 0 where
@@ -184,9 +184,9 @@ onLine (good x) f g = g x
 
 -- from line n on, in a stage. "4 key missing or out of order, or a line after end; with no end line, at is one past the last line"
 unfoldable pub readFrom : ℕ → ℕ → File → List Text → Reading
-unfolding onLine lineOf keyOf
+unfolding onLine lineTaken keyOf
 readFrom n stage f [] = cond (eqb stage 5) (read f) (fault 4 n)
-readFrom n stage f (l ∷ ls) = onLine (lineOf stage f l) (λ c. fault c n) λ g. readFrom (n + 1) (stageAfter (keyOf l)) g ls
+readFrom n stage f (l ∷ ls) = onLine (lineTaken stage f l) (λ c. fault c n) λ g. readFrom (n + 1) (stageAfter (keyOf l)) g ls
 
 abbrev pub nothing : File
 nothing = record { types = 0; bases = []; variables = []; left = []; right = []; steps = [] }

@@ -99,7 +99,13 @@ module _ (ws : List ℕ) (k : ℕ) (m : Move) (room : hasRoom ws k ≡ true) whe
   move-before : (j : ℕ) → j < k → moveIn (stepPut ws k m) j ≡ moveIn ws j
   unfolding moveIn lentStep
   move-before j h =
-      rw (word-before (stepAt j) (omega arith), word-before (stepAt j + 1) (omega arith), word-before (stepAt j + 2) (omega arith), word-before (stepAt j + 3) (omega arith), word-before (stepAt j + 4) (omega arith))
+      rw (
+        word-before (stepAt j) (omega arith),
+        word-before (stepAt j + 1) (omega arith),
+        word-before (stepAt j + 2) (omega arith),
+        word-before (stepAt j + 3) (omega arith),
+        word-before (stepAt j + 4) (omega arith),
+      )
 
 pub puts : Puts
 unfolding movesIn

@@ -23,7 +23,7 @@ use Rattle.typing.specs.declared.terms.Sizes.{Sizes}
 use Rattle.typing.specs.declared.terms.TermType.{TermType}
 use Rattle.typing.specs.declared.terms.Typing.{Typing}
 use Rattle.typing.specs.Answers.{sizesOf, pad, typeRecord, refuse, typing, answerOf, typingOf, TypedTerm}
-use Rattle.lent.specs.Lent.{maxSteps, stepAt, sided, stepsFault}
+use Rattle.lent.specs.Lent.{Derivation, maxSteps, stepAt, sided, stepsFault}
 use Rattle.lent.specs.Faults.{sameSizes, sameType, fault, typesFault, earlyCode, faultOf, faultIn}
 use Rattle.lent.specs.Refusals.{InOrder}
 
@@ -42,13 +42,13 @@ module _ (a b : TermType) (x y : Sizes) (e : x ≡ sizesOf (a .kind)) (f : y ≡
   same-columns h k = rw (← e, ← f, h, k)
 
 -- ---- the first fault
-module _ (ds left : List ℕ) (n : ℕ) (right : List ℕ) (m : ℕ) (steps : List ℕ) (count : ℕ) (l r : Typing) (s early : ℕ)
-    (e : l ≡ typingOf ds left n) (f : r ≡ typingOf ds right m) (g : s ≡ stepsFault steps count) (h : early ≡ earlyCode (l .code) (r .code) s) where
-  pub early-fault : early ≢ 0 → fault early 0 0 ≡ faultIn ds left n right m steps count
+module _ (d : Derivation) (l r : Typing) (s early : ℕ)
+    (e : l ≡ typingOf (d .ds) (d .left) (d .n)) (f : r ≡ typingOf (d .ds) (d .right) (d .m)) (g : s ≡ stepsFault (d .steps) (d .count)) (h : early ≡ earlyCode (l .code) (r .code) s) where
+  pub early-fault : early ≢ 0 → fault early 0 0 ≡ faultIn d
   unfolding faultIn faultOf
   early-fault z = rw (← e, ← f, ← g, ← h, ne-eqb early 0 z)
 
-  pub late-fault : early ≡ 0 → typesFault l r ≡ faultIn ds left n right m steps count
+  pub late-fault : early ≡ 0 → typesFault l r ≡ faultIn d
   unfolding faultIn faultOf
   late-fault z = rw (← e, ← f, ← g, ← h, eq-eqb early 0 z)
 

@@ -1,7 +1,6 @@
 -- What is wrong with what is lent, before the first step, as a function for the code to equal: the relation to believe is `Judged` of `Refusals`, and `Judges` of `Statements` says that the
 -- fault is so. Document 01, "What comes out, by whose doing", codes 1 to 12, and 02, CR 1, code 13.
 use mathlib.Core.Bool.{Bool, cond, _&&_, _||_}
-use mathlib.Core.List.{List}
 use Prim.Native.Nat.{ℕ}
 use lib.Dec.{eqb}
 use Rattle.words.specs.Words.{sameWords}
@@ -10,7 +9,7 @@ use Rattle.typing.specs.declared.terms.TermType.{TermType}
 use Rattle.typing.specs.declared.terms.Typing.{Typing}
 use Rattle.typing.specs.Answers.{sizesOf, typingOf}
 use Rattle.lent.specs.declared.faults.Fault as F
-use Rattle.lent.specs.Lent.{stepsFault}
+use Rattle.lent.specs.Lent.{Derivation, stepsFault}
 
 -- two types are the same: kind and lengths, and the words of both indices
 unfoldable pub sameSizes : Sizes → Sizes → Bool
@@ -40,7 +39,6 @@ unfoldable pub faultOf : Typing → Typing → ℕ → F.Fault
 unfolding typesFault earlyCode
 faultOf l r steps = let early = earlyCode (l .code) (r .code) steps in cond (eqb early 0) (typesFault l r) (fault early 0 0)
 
--- what is lent: declarations, two work slices with their lengths, the steps with their count
-unfoldable pub faultIn : List ℕ → List ℕ → ℕ → List ℕ → ℕ → List ℕ → ℕ → F.Fault
+unfoldable pub faultIn : Derivation → F.Fault
 unfolding faultOf typingOf stepsFault
-faultIn ds left n right m steps count = faultOf (typingOf ds left n) (typingOf ds right m) (stepsFault steps count)
+faultIn d = faultOf (typingOf (d .ds) (d .left) (d .n)) (typingOf (d .ds) (d .right) (d .m)) (stepsFault (d .steps) (d .count))

@@ -17,6 +17,19 @@ use Rattle.rules.specs.Steps as R
 use Rattle.rules.specs.Steps.{Move, sideNumber}
 use Rattle.lent.specs.declared.steps.Step as S
 
+-- What is lent for a derivation: declarations, two work slices with the lengths of the terms in them, and the steps with their count
+pub record Derivation : Type 0 where
+  pub ds : List ℕ
+  pub left : List ℕ
+  pub n : ℕ
+  pub right : List ℕ
+  pub m : ℕ
+  pub steps : List ℕ
+  pub count : ℕ
+
+abbrev pub lent : List ℕ → List ℕ → ℕ → List ℕ → ℕ → List ℕ → ℕ → Derivation
+lent ds left n right m steps count = record { ds = ds; left = left; n = n; right = right; m = m; steps = steps; count = count }
+
 abbrev pub stepWords : ℕ
 stepWords = 8
 

@@ -4,14 +4,13 @@ use mathlib.Core.Bool.{true}
 use mathlib.Core.List.{List, [], _∷_, _++_}
 use Prim.Native.Nat.{ℕ, _+_}
 use Rattle.rules.specs.Steps.{Move}
-use Rattle.lent.specs.Lent.{movesIn, hasRoom, stepPut}
+use Rattle.lent.specs.Lent.{Derivation, movesIn, hasRoom, stepPut}
 use Rattle.lent.specs.Faults.{faultIn}
 use Rattle.lent.specs.Refusals.{Judged}
 
 -- 01: "then left 10, 11, right 10, 11, then 12", behind 1, 7, 8 and the steps' own; 02, CR 1: "a side's 13 tested before its 10"
 abbrev pub Judges : Type 0
-Judges =
-    (ds left : List ℕ) (n : ℕ) (right : List ℕ) (m : ℕ) (steps : List ℕ) (count : ℕ) → Judged ds left n right m steps count (faultIn ds left n right m steps count)
+Judges = (d : Derivation) → Judged d (faultIn d)
 
 -- ---- the constructor: a step put behind others is read back, and they stay
 abbrev pub Puts : Type 0

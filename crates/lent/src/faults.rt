@@ -7,6 +7,7 @@ use typing::terms::sizes_of;
 use typing::terms::type_term;
 use words::same;
 ghost use mathlib.Core.Path.{_≡_};
+ghost use Rattle.lent.specs.Lent.{lent};
 ghost use Rattle.lent.specs.Faults.{sameSizes, sameType, fault, typesFault, earlyCode, faultIn};
 
 // A fault that is found before any step, or code 0 for none.
@@ -115,7 +116,7 @@ pub fn first_fault(
     steps: &[u16],
     count: usize,
 ) -> Fault
-    ensures { λ r. ⌜ r ≡ faultIn (now (ds .entry)) (now (left .entry)) n (now (right .entry)) m (now (steps .entry)) count ⌝ }
+    ensures { λ r. ⌜ r ≡ faultIn (lent (now (ds .entry)) (now (left .entry)) n (now (right .entry)) m (now (steps .entry)) count) ⌝ }
 {
     let of_left = type_term(ds, left, n);
     let of_right = type_term(ds, right, m);

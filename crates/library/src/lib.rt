@@ -1,5 +1,6 @@
-// The library for others: the replay, the run, the single step, its preview, the typing, the lookup of a part and the constructors as functions of plain numbers and lent slices, which C and Rust can call. Nothing is
-// relied on. Where a function hands out an answer as numbers, a slice for it of another size is refused: the function returns 1 and touches nothing.
+// The library for others: the replay, the run, the single step, its preview, the typing, the lookup of a part and the constructors as functions of plain numbers and lent slices,
+// which C and Rust can call. Nothing is relied on. Where a function hands out an answer as numbers, a slice for it of another size is refused: the function returns 1 and touches
+// nothing.
 use declarations::constructor::Put;
 use declarations::constructor::put_basis;
 use declarations::constructor::put_variable;
@@ -28,6 +29,7 @@ ghost use Rattle.typing.specs.Answers.{typingOf};
 ghost use Rattle.lent.specs.Lent.{isSide, hasRoom, stepPut};
 ghost use Rattle.step.specs.Answers.{answerTo, wordsLeft};
 ghost use Rattle.step.specs.Previews.{previewOf};
+ghost use Rattle.lent.specs.Lent.{lent};
 ghost use Rattle.step.specs.Runs.{runAnswer, leftAfter, rightAfter};
 ghost use Rattle.file.specs.Replays.{replayAnswer, leftReplayed, rightReplayed};
 ghost use Rattle.library.specs.Numbers.{ofSize, status, handed, answerNumbers, stepNumbers, typingNumbers, Told, putNumber, stepOf, moveOf};
@@ -61,7 +63,8 @@ pub extern "C" fn fejogbu_replay(
     answer: &mut [u64],
 ) -> u64
     ensures returned { λ r. ⌜ r ≡ status (ofSize 6 (now (answer .entry))) ⌝ }
-    ensures answered { λ _. ⌜ now (answer .exit) ≡ handed (ofSize 6 (now (answer .entry))) (answerNumbers (replayAnswer (now (bytes .entry)) (now (left .entry)) (now (right .entry)))) (now (answer .entry)) ⌝ }
+    ensures answered { λ _. ⌜ now (answer .exit) ≡ handed (ofSize 6 (now (answer .entry)))
+        (answerNumbers (replayAnswer (now (bytes .entry)) (now (left .entry)) (now (right .entry)))) (now (answer .entry)) ⌝ }
     ensures lefts { λ _. ⌜ now (left .exit) ≡ handed (ofSize 6 (now (answer .entry))) (leftReplayed (now (bytes .entry)) (now (left .entry)) (now (right .entry))) (now (left .entry)) ⌝ }
     ensures rights { λ _. ⌜ now (right .exit) ≡ handed (ofSize 6 (now (answer .entry))) (rightReplayed (now (bytes .entry)) (now (left .entry)) (now (right .entry))) (now (right .entry)) ⌝ }
 {
@@ -85,9 +88,12 @@ pub extern "C" fn fejogbu_run(
     answer: &mut [u64],
 ) -> u64
     ensures returned { λ r. ⌜ r ≡ status (ofSize 6 (now (answer .entry))) ⌝ }
-    ensures answered { λ _. ⌜ now (answer .exit) ≡ handed (ofSize 6 (now (answer .entry))) (answerNumbers (runAnswer (now (ds .entry)) (now (left .entry)) n (now (right .entry)) m (now (steps .entry)) count)) (now (answer .entry)) ⌝ }
-    ensures lefts { λ _. ⌜ now (left .exit) ≡ handed (ofSize 6 (now (answer .entry))) (leftAfter (now (ds .entry)) (now (left .entry)) n (now (right .entry)) m (now (steps .entry)) count) (now (left .entry)) ⌝ }
-    ensures rights { λ _. ⌜ now (right .exit) ≡ handed (ofSize 6 (now (answer .entry))) (rightAfter (now (ds .entry)) (now (left .entry)) n (now (right .entry)) m (now (steps .entry)) count) (now (right .entry)) ⌝ }
+    ensures answered { λ _. ⌜ now (answer .exit) ≡ handed (ofSize 6 (now (answer .entry)))
+        (answerNumbers (runAnswer (lent (now (ds .entry)) (now (left .entry)) n (now (right .entry)) m (now (steps .entry)) count))) (now (answer .entry)) ⌝ }
+    ensures lefts { λ _. ⌜ now (left .exit) ≡ handed (ofSize 6 (now (answer .entry)))
+        (leftAfter (lent (now (ds .entry)) (now (left .entry)) n (now (right .entry)) m (now (steps .entry)) count)) (now (left .entry)) ⌝ }
+    ensures rights { λ _. ⌜ now (right .exit) ≡ handed (ofSize 6 (now (answer .entry)))
+        (rightAfter (lent (now (ds .entry)) (now (left .entry)) n (now (right .entry)) m (now (steps .entry)) count)) (now (right .entry)) ⌝ }
 {
     if answer.len() != 6 {
         return 1;
@@ -109,7 +115,8 @@ pub extern "C" fn fejogbu_step(
     answer: &mut [u64],
 ) -> u64
     ensures returned { λ r. ⌜ r ≡ status (ofSize 5 (now (answer .entry))) ⌝ }
-    ensures answered { λ _. ⌜ now (answer .exit) ≡ handed (ofSize 5 (now (answer .entry))) (stepNumbers (answerTo (now (ds .entry)) (now (term .entry)) n (stepOf rule place i j))) (now (answer .entry)) ⌝ }
+    ensures answered { λ _. ⌜ now (answer .exit) ≡ handed (ofSize 5 (now (answer .entry)))
+        (stepNumbers (answerTo (now (ds .entry)) (now (term .entry)) n (stepOf rule place i j))) (now (answer .entry)) ⌝ }
     ensures terms { λ _. ⌜ now (term .exit) ≡ handed (ofSize 5 (now (answer .entry))) (wordsLeft (now (ds .entry)) (now (term .entry)) n (stepOf rule place i j)) (now (term .entry)) ⌝ }
 {
     if answer.len() != 5 {
@@ -190,7 +197,8 @@ pub extern "C" fn fejogbu_typing(
     rows: &mut [u16],
     columns: &mut [u16],
 ) -> u64
-    ensures { λ r. ⌜ Told (now (answer .entry)) (now (rows .entry)) (now (columns .entry)) (typingOf (now (ds .entry)) (now (term .entry)) n) r (now (answer .exit)) (now (rows .exit)) (now (columns .exit)) ⌝ }
+    ensures { λ r. ⌜ Told (now (answer .entry)) (now (rows .entry)) (now (columns .entry))
+        (typingOf (now (ds .entry)) (now (term .entry)) n) r (now (answer .exit)) (now (rows .exit)) (now (columns .exit)) ⌝ }
 {
     hand_out(answer, rows, columns, type_term(ds, term, n))
 }
@@ -210,7 +218,8 @@ pub extern "C" fn fejogbu_preview(
     rows: &mut [u16],
     columns: &mut [u16],
 ) -> u64
-    ensures { λ r. ⌜ Told (now (answer .entry)) (now (rows .entry)) (now (columns .entry)) (previewOf (now (ds .entry)) (now (term .entry)) n (stepOf rule place i j)) r (now (answer .exit)) (now (rows .exit)) (now (columns .exit)) ⌝ }
+    ensures { λ r. ⌜ Told (now (answer .entry)) (now (rows .entry)) (now (columns .entry))
+        (previewOf (now (ds .entry)) (now (term .entry)) n (stepOf rule place i j)) r (now (answer .exit)) (now (rows .exit)) (now (columns .exit)) ⌝ }
 {
     hand_out(
         answer,
@@ -254,7 +263,8 @@ pub extern "C" fn fejogbu_start_declarations(ds: &mut [u16], types: usize) -> u6
 #[no_mangle]
 pub extern "C" fn fejogbu_put_basis(ds: &mut [u16], index: &[u16]) -> u64
     ensures returned { λ r. ⌜ r ≡ putNumber (P.answer (P.room (now (ds .entry)) 1) (isIndex (getD (now (ds .entry)) 0 0) (now (index .entry)))) ⌝ }
-    ensures declared { λ _. ⌜ now (ds .exit) ≡ P.leaves (P.answer (P.room (now (ds .entry)) 1) (isIndex (getD (now (ds .entry)) 0 0) (now (index .entry)))) (P.basisPut (now (ds .entry)) (now (index .entry))) (now (ds .entry)) ⌝ }
+    ensures declared { λ _. ⌜ now (ds .exit) ≡ P.leaves (P.answer (P.room (now (ds .entry)) 1) (isIndex (getD (now (ds .entry)) 0 0) (now (index .entry))))
+        (P.basisPut (now (ds .entry)) (now (index .entry))) (now (ds .entry)) ⌝ }
 {
     put_number(put_basis(ds, index))
 }
@@ -268,7 +278,8 @@ pub extern "C" fn fejogbu_put_variable(
     second: &[u16],
 ) -> u64
     ensures returned { λ r. ⌜ r ≡ putNumber (P.answer (P.room (now (ds .entry)) 2) (isVariable (getD (now (ds .entry)) 0 0) kind (now (first .entry)) (now (second .entry)))) ⌝ }
-    ensures declared { λ _. ⌜ now (ds .exit) ≡ P.leaves (P.answer (P.room (now (ds .entry)) 2) (isVariable (getD (now (ds .entry)) 0 0) kind (now (first .entry)) (now (second .entry)))) (P.variablePut (now (ds .entry)) kind (now (first .entry)) (now (second .entry))) (now (ds .entry)) ⌝ }
+    ensures declared { λ _. ⌜ now (ds .exit) ≡ P.leaves (P.answer (P.room (now (ds .entry)) 2) (isVariable (getD (now (ds .entry)) 0 0) kind (now (first .entry)) (now (second .entry))))
+        (P.variablePut (now (ds .entry)) kind (now (first .entry)) (now (second .entry))) (now (ds .entry)) ⌝ }
 {
     put_number(put_variable(ds, kind, first, second))
 }

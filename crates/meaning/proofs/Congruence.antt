@@ -6,7 +6,7 @@ use native.Mathlib.Omega.{arith}
 use borrow.Author.Tests.{lt-ltb, le-ltb}
 use lib.ListN.{length}
 use Rattle.algebra.specs.Semirings.{Arithmetic}
-use Rattle.algebra.specs.Matrices.{Matrix, _≈_, Shape, number, sum-matrices}
+use Rattle.algebra.specs.Matrices.{Matrix, _≈_, HasShape, number, sum-matrices}
 use Rattle.algebra.proofs.Alike.{≈-refl, ≡→≈, number-≈, add-≈, scale-≈, mul-≈, adjoint-≈, kronecker-≈}
 use Rattle.algebra.proofs.Shapes.{same-rows, same-columns, conformable}
 use Rattle.algebra.proofs.Ranges.{sum-matrices-≈}
@@ -15,16 +15,18 @@ use Rattle.term.specs.Trees.{Tree, Forest, node, none, _▹_, words, found, sub
 use Rattle.term.specs.Terms.{maxBodies}
 use Rattle.types.specs.Sorts.{Sort, index, basis, scalar, ket, bra, operator, IsType, Context, bind}
 use Rattle.types.specs.Inside.{later, inside, inside*}
-use Rattle.types.specs.Rules.{_⊢_∶_, _⊢*_∶_, every-none, every-more, type-var, basis-var, term-var, sca-0, sca-1, sca-delta, sca-add, sca-mul, sca-conj, sca-dot, base-prod, pair-base, ket-0, ket-base, ket-adj, ket-scr, ket-add, ket-mulk, ket-tsr, bra-0, bra-base, bra-adj, bra-scr, bra-add, bra-mulb, bra-tsr, opt-0, opt-1, opt-adj, opt-scr, opt-add, opt-outer, opt-mulo, opt-tsr, bound-var, sum-over, WellFormed}
+use Rattle.types.specs.Rules.{_⊢_∶_, _⊢*_∶_, every-none, every-more, type-var, basis-var, term-var, sca-0, sca-1, sca-delta, sca-add, sca-mul, sca-conj, sca-dot, base-prod, pair-base}
+use Rattle.types.specs.Rules.{ket-0, ket-base, ket-adj, ket-scr, ket-add, ket-mulk, ket-tsr, bra-0, bra-base, bra-adj, bra-scr, bra-add, bra-mulb, bra-tsr, opt-0, opt-1, opt-adj, opt-scr}
+use Rattle.types.specs.Rules.{opt-add, opt-outer, opt-mulo, opt-tsr, bound-var, sum-over, WellFormed}
 use Rattle.types.proofs.Indices.{index-is, bind-well, later-well}
 use Rattle.meaning.specs.Choices.{Choice, run, Meaning, a-term, an-index, a-basis}
 use Rattle.meaning.specs.Meaning.{first, second, plus, total, times, product, meaningOf, meaning, dimension, stands, stands*}
-use Rattle.meaning.specs.Sorted.{Proper, Fits, Same}
+use Rattle.meaning.specs.Sorted.{ProperMeaning, Fits, Same}
 use Rattle.meaning.proofs.Sameness.{same-refl}
 use Rattle.meaning.proofs.Shapes.{plus-shape, fits-run, sum-stands, sum-index, shape}
 
 -- the numbers of two scalars
-same-number : {R : Type 0} {A B : Matrix R} → Shape A 1 1 → A ≈ B → number A ≡ number B
+same-number : {R : Type 0} {A B : Matrix R} → HasShape A 1 1 → A ≈ B → number A ≡ number B
 same-number s p = number-≈ p (s .rows) (s .columns)
 
 module _ {R : Type 0} (𝓐 : Arithmetic R) where
@@ -56,13 +58,13 @@ module _ {R : Type 0} (𝓐 : Arithmetic R) {Γ : Context} (W : WellFormed Γ) w
   Served* f g = Serves* 𝓐 f g Γ Γ
 
   -- children of a sum, at any sort of matrices of one shape
-  module _ (S : Sort) {m n : Choice R → ℕ} (shaped : (χ : Choice R) (x : Meaning R) → Proper 𝓐 χ S x → Shape (x .matrix) (m χ) (n χ))
+  module _ (S : Sort) {m n : Choice R → ℕ} (shaped : (χ : Choice R) (x : Meaning R) → ProperMeaning 𝓐 χ S x → HasShape (x .matrix) (m χ) (n χ))
       (alike : (x y : Meaning R) → Same S x y → x .matrix ≈ y .matrix) where
     sum-served : {f g : Forest} → Γ ⊢* f ∶ S → Served* f g → Γ ⊢* g ∶ S
     sum-served every-none no-more = every-none
     sum-served (every-more d ds) (one-more x xs) = every-more (x S d .0) (sum-served ds xs)
 
-    sum-alike : {A B : Matrix R} {f g : Forest} (χ : Choice R) → Fits 𝓐 Γ χ → Shape A (m χ) (n χ) → A ≈ B → Γ ⊢* f ∶ S → Served* f g
+    sum-alike : {A B : Matrix R} {f g : Forest} (χ : Choice R) → Fits 𝓐 Γ χ → HasShape A (m χ) (n χ) → A ≈ B → Γ ⊢* f ∶ S → Served* f g
         → plus 𝓐 A (stands* 𝓐 Γ χ f) ≈ plus 𝓐 B (stands* 𝓐 Γ χ g)
     unfolding plus meaning stands
     sum-alike χ F s p every-none no-more = p
@@ -102,7 +104,7 @@ module _ {R : Type 0} (𝓐 : Arithmetic R) {Γ : Context} (W : WellFormed Γ) w
       (rule (x .0) (y .0), λ χ F. law χ F (x .0) (y .0) (x .1 χ F) (y .1 χ F))
 
   -- a sum over a basis: its index is the same tree, and its body stands for the same at each index
-  sums-alike : (S : Sort) (d : ℕ) (f g : ℕ → Meaning R) (χ : Choice R) → IsType S → 1 ≤ d → ((p : ℕ) → p < d → Proper 𝓐 (run p χ) S (f p)) → ((p : ℕ) → p < d → Same S (f p) (g p))
+  sums-alike : (S : Sort) (d : ℕ) (f g : ℕ → Meaning R) (χ : Choice R) → IsType S → 1 ≤ d → ((p : ℕ) → p < d → ProperMeaning 𝓐 (run p χ) S (f p)) → ((p : ℕ) → p < d → Same S (f p) (g p))
       → (x y : Meaning R) → x .matrix ≡ sum-matrices 𝓐 d (λ p. f p .matrix) → y .matrix ≡ sum-matrices 𝓐 d (λ p. g p .matrix) → Same S x y
   unfolding dimension
   sums-alike (index σ) d f g χ t h s a x y e k = absurd t

@@ -57,5 +57,10 @@ chooses 𝓐 Γ W unbound δ π e from-one = (
   choice 𝓐 Γ δ π e,
   record { dimensions = λ a. refl; positions = λ a. refl; entries = λ a i j. refl },
   λ σ h. positive 𝓐 W (choice 𝓐 Γ δ π e) from-one h,
-  λ inside. record { dimensions = from-one; positions = inside; matrices = as-declared 𝓐 Γ δ π e; bounds = λ a σ h. absurd (let z : none ≡ some σ = rw unbound at h in let q : _≡_ {A = ℕ} 0 1 = cc in omega arith) },
+  λ inside. record {
+    dimensions = from-one;
+    positions = inside;
+    matrices = as-declared 𝓐 Γ δ π e;
+    bounds = λ a σ h. absurd (let z : none ≡ some σ = rw unbound at h in let q : _≡_ {A = ℕ} 0 1 = cc in omega arith);
+  },
 )

@@ -5,9 +5,11 @@ use Prim.Native.Nat.{ℕ}
 use lib.IntN.{ℤ, pos, negsuc}
 use lib.ListN.{getD}
 use Rattle.algebra.specs.Sums.{sum}
-use Rattle.algebra.specs.Matrices.{Matrix, number, kronecker-delta, zeros, identity as identity-matrix, unit-column, unit-row, scalar as scalar-matrix, add as add-matrix, scale as scale-matrix, mul, adjoint as adjoint-matrix, kronecker}
+use Rattle.algebra.specs.Matrices.{Matrix, number, kronecker-delta, zeros, identity as identity-matrix, unit-column, unit-row, scalar as scalar-matrix, add as add-matrix}
+use Rattle.algebra.specs.Matrices.{scale as scale-matrix, mul, adjoint as adjoint-matrix, kronecker}
 use Rattle.algebra.specs.Gaussian.{Gaussian, gaussian, add as add-numbers, mul as multiply-numbers, conj}
-use Rattle.term.specs.Heads.{Label, type-name, basis-name, variable, index-product, pair, scalar-one, scalar-sum, scalar-product, conjugate, delta, dot, zero-operator, identity, basis-ket, basis-bra, adjoint, scale, add, tensor, mulk, outer, mulo}
+use Rattle.term.specs.Heads.{Label, type-name, basis-name, variable, index-product, pair, scalar-one, scalar-sum, scalar-product, conjugate, delta, dot, zero-operator, identity, basis-ket}
+use Rattle.term.specs.Heads.{basis-bra, adjoint, scale, add, tensor, mulk, outer, mulo}
 use Rattle.term.specs.Trees.{Tree, node, none, _▹_}
 use Rattle.types.specs.Sorts.{scalar, ket, operator, Context}
 use Rattle.meaning.specs.Choices.{Choice, an-index, a-basis, a-term, nothing}
@@ -67,7 +69,8 @@ abbrev χ : Choice Gaussian
     }
 
 -- the number at a row and a column of a term
-abbrev at : Tree → ℕ → ℕ → Gaussian
+unfoldable at : Tree → ℕ → ℕ → Gaussian
+unfolding mean stands names meaning meaningOf declared dimension position first second plus total times product an-index a-basis a-term nothing
 at t i j = mean gaussian Γ χ t .entry i j
 
 abbrev size : Tree → List ℕ
@@ -110,5 +113,5 @@ the-examples :
     -- 19 26:2 26:1 at row 0 is (2 + 3 i) i; 20:2 26:0 26:0 at row 1, column 0 is 4 − 2 i
     × (at (two scale (var 2) (var 1)) 0 0 ≡ negsuc 2 +i pos 2)
     × (at (two add (var 0) (var 0)) 1 0 ≡ pos 4 +i negsuc 1)
-unfolding mean stands names meaning meaningOf declared dimension position first second plus total times product an-index a-basis a-term nothing sum number kronecker-delta zeros identity-matrix unit-column unit-row scalar-matrix add-matrix scale-matrix mul adjoint-matrix kronecker add-numbers multiply-numbers conj
+unfolding at sum number kronecker-delta zeros identity-matrix unit-column unit-row scalar-matrix add-matrix scale-matrix mul adjoint-matrix kronecker add-numbers multiply-numbers conj
 the-examples = (refl, refl, refl, refl, refl, refl, refl, refl, refl, refl, refl, refl, refl, refl, refl, refl, refl, refl, refl, refl, refl, refl, refl, refl, refl)

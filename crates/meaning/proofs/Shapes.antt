@@ -1,39 +1,41 @@
 -- The shape theorem: under a choice that fits, a part of a sort stands for what its sort says.
 use mathlib.Core.Path.{_≡_, refl, sym, _∙_, ap}
+use mathlib.Core.Logic.{_↔_}
 use mathlib.Core.Option.{Option, some, none as undeclared}
 use mathlib.Core.List.{List, [], _∷_}
 use Prim.Native.Nat.{ℕ, zero, suc, _+_, _*_, _≤_, _<_}
 use lib.ListN.{getElem?}
 use lib.Arith.{digits-lt}
 use Rattle.algebra.specs.Semirings.{Arithmetic}
-use Rattle.algebra.specs.Matrices.{Matrix, Shape, sum-matrices}
+use Rattle.algebra.specs.Matrices.{Matrix, HasShape, sum-matrices}
 use Rattle.algebra.proofs.Shapes.{shape-scalar, shape-zeros, shape-identity, shape-unit-column, shape-unit-row, shape-add, shape-scale, shape-mul, shape-adjoint, shape-kronecker, shape-sum-matrices}
 use Rattle.term.specs.Heads.{big-sum}
 use Rattle.term.specs.Trees.{Tree, node, none, _▹_}
 use Rattle.types.specs.Sorts.{Sort, index, basis, scalar, ket, bra, operator, IsType, Context, bind}
-use Rattle.types.specs.Rules.{_⊢_∶_, type-var, basis-var, term-var, sca-0, sca-1, sca-delta, sca-add, sca-mul, sca-conj, sca-dot, base-prod, pair-base, ket-0, ket-base, ket-adj, ket-scr, ket-add, ket-mulk, ket-tsr, bra-0, bra-base, bra-adj, bra-scr, bra-add, bra-mulb, bra-tsr, opt-0, opt-1, opt-adj, opt-scr, opt-add, opt-outer, opt-mulo, opt-tsr, bound-var, sum-over, WellFormed}
+use Rattle.types.specs.Rules.{_⊢_∶_, type-var, basis-var, term-var, sca-0, sca-1, sca-delta, sca-add, sca-mul, sca-conj, sca-dot, base-prod, pair-base, ket-0, ket-base, ket-adj, ket-scr}
+use Rattle.types.specs.Rules.{ket-add, ket-mulk, ket-tsr, bra-0, bra-base, bra-adj, bra-scr, bra-add, bra-mulb, bra-tsr, opt-0, opt-1, opt-adj, opt-scr, opt-add, opt-outer, opt-mulo}
+use Rattle.types.specs.Rules.{opt-tsr, bound-var, sum-over, WellFormed}
 use Rattle.types.proofs.Indices.{index-is, bind-well}
-use Rattle.meaning.specs.Choices.{Choice, push, run, Meaning, Names, a-term, an-index, a-basis}
+use Rattle.meaning.specs.Choices.{Choice, push, run, Meaning, NameMeanings, a-term, an-index, a-basis}
 use Rattle.meaning.specs.Meaning.{first, second, plus, total, product, meaningOf, under, meaning, dimension, declared, names, stands}
-use Rattle.meaning.specs.Sorted.{Shaped, Proper, Fits}
+use Rattle.meaning.specs.Sorted.{Shaped, ProperMeaning, Fits}
 use Rattle.meaning.proofs.Fitting.{positive}
 
 module _ {R : Type 0} (𝓐 : Arithmetic R) where
-  -- a variable's matrix is shaped as declared
-  declared-shape : (χ : Choice R) (S : Sort) (A : Matrix R) → IsType S → Shaped 𝓐 χ S A → Proper 𝓐 χ S (a-term A)
-  unfolding a-term
-  declared-shape χ (index σ) A t s = absurd t
-  declared-shape χ (basis σ) A t s = absurd t
-  declared-shape χ scalar A t s = s
-  declared-shape χ (ket σ) A t s = s
-  declared-shape χ (bra σ) A t s = s
-  declared-shape χ (operator σ τ) A t s = s
+  -- at a type, a meaning is its matrix
+  pub at-type : (χ : Choice R) (S : Sort) (x : Meaning R) → IsType S → ProperMeaning 𝓐 χ S x ↔ Shaped 𝓐 χ S (x .matrix)
+  at-type χ (index σ) x t = absurd t
+  at-type χ (basis σ) x t = absurd t
+  at-type χ scalar x t = (λ p. p, λ p. p)
+  at-type χ (ket σ) x t = (λ p. p, λ p. p)
+  at-type χ (bra σ) x t = (λ p. p, λ p. p)
+  at-type χ (operator σ τ) x t = (λ p. p, λ p. p)
 
   -- the pair of two positions lies below the product of their dimensions
   pair-below : {d e p q m n : ℕ} → (d ≡ m) × (p < m) → (e ≡ n) × (q < n) → (d * e ≡ m * n) × (p * e + q < m * n)
   pair-below s t = (cc (s .0, t .0), rw (t .0) (digits-lt (s .1) (t .1)))
 
-  pub plus-shape : {A : Matrix R} {m n : ℕ} (cs : List (Meaning R)) → Shape A m n → Shape (plus 𝓐 A cs) m n
+  pub plus-shape : {A : Matrix R} {m n : ℕ} (cs : List (Meaning R)) → HasShape A m n → HasShape (plus 𝓐 A cs) m n
   unfolding plus
   plus-shape [] s = s
   plus-shape (c ∷ cs) s = shape-add 𝓐 _ s
@@ -72,7 +74,7 @@ module _ {R : Type 0} (𝓐 : Arithmetic R) where
   unfolding names dimension push declared
   names-run Γ χ s p = λ i. record { types = N .types; bases = λ a. a-basis 𝓐 (declared-run χ p (getElem? (Γ .bases) a) i) (χ .position a); variables = N .variables; bounds = λ a. go a i }
     where
-      N : Names R
+      N : NameMeanings R
       N = names 𝓐 Γ χ
 
       go : (a : ℕ) → push (a-basis 𝓐 (dimension 𝓐 χ s) p) (N .bounds) a ≡ names 𝓐 (bind s Γ) (run p χ) .bounds a
@@ -86,8 +88,8 @@ module _ {R : Type 0} (𝓐 : Arithmetic R) where
   sum-stands Γ χ s b e = rw e (ap (sum-matrices 𝓐 (dimension 𝓐 χ s)) λ i p. meaning 𝓐 (names-run Γ χ s p i) b .matrix)
 
   -- a sum has the shape of its body, which is one for all indices
-  sum-proper : (χ : Choice R) (S : Sort) (d : ℕ) (f : ℕ → Meaning R) → IsType S → 1 ≤ d → ((p : ℕ) → p < d → Proper 𝓐 (run p χ) S (f p)) → (x : Meaning R)
-      → x .matrix ≡ sum-matrices 𝓐 d (λ p. f p .matrix) → Proper 𝓐 χ S x
+  sum-proper : (χ : Choice R) (S : Sort) (d : ℕ) (f : ℕ → Meaning R) → IsType S → 1 ≤ d → ((p : ℕ) → p < d → ProperMeaning 𝓐 (run p χ) S (f p)) → (x : Meaning R)
+      → x .matrix ≡ sum-matrices 𝓐 d (λ p. f p .matrix) → ProperMeaning 𝓐 χ S x
   unfolding dimension
   sum-proper χ (index σ) d f t h s x e = absurd t
   sum-proper χ (basis σ) d f t h s x e = absurd t
@@ -101,11 +103,11 @@ module _ {R : Type 0} (𝓐 : Arithmetic R) where
       → (stands 𝓐 Γ χ s .dimension ≡ dimension 𝓐 χ s) × (1 ≤ dimension 𝓐 χ s)
   index-by {Γ} {χ} W F {s} {σ} a e = let z : s ≡ σ = index-is W a in (e ∙ ap (dimension 𝓐 χ) (sym z), rw z (positive 𝓐 W χ (F .dimensions) a))
 
-  pub shape : {Γ : Context} {χ : Choice R} → WellFormed Γ → Fits 𝓐 Γ χ → {t : Tree} {S : Sort} → Γ ⊢ t ∶ S → Proper 𝓐 χ S (stands 𝓐 Γ χ t)
+  pub shape : {Γ : Context} {χ : Choice R} → WellFormed Γ → Fits 𝓐 Γ χ → {t : Tree} {S : Sort} → Γ ⊢ t ∶ S → ProperMeaning 𝓐 χ S (stands 𝓐 Γ χ t)
   unfolding stands meaning names meaningOf first second total product a-term an-index a-basis declared dimension
   shape W F (type-var h) = refl
   shape W F (basis-var e) = (rw e refl, F .positions _ _ e)
-  shape {χ} W F (term-var {a} {S} e) = declared-shape χ S (χ .matrix a) (W .variable-type _ _ e .0) (F .matrices _ _ e)
+  shape {χ} W F (term-var {a} {S} e) = at-type χ S _ (W .variable-type _ _ e .0) .1 (F .matrices _ _ e)
   shape W F sca-0 = shape-scalar 𝓐 _
   shape W F sca-1 = shape-scalar 𝓐 _
   shape W F (sca-delta a b) = shape-scalar 𝓐 _

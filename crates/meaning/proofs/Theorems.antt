@@ -7,11 +7,11 @@ use Rattle.algebra.specs.Gaussian.{Gaussian, gaussian}
 use Rattle.types.specs.Sorts.{Sort, index, basis, scalar, ket, bra, operator, IsType}
 use Rattle.types.proofs.Complete.{unique}
 use Rattle.types.proofs.Replace.{inside-well}
-use Rattle.meaning.specs.Choices.{Choice, Meaning}
+use Rattle.meaning.specs.Choices.{Meaning}
 use Rattle.meaning.specs.Meaning.{mean}
-use Rattle.meaning.specs.Sorted.{Shaped, Proper, Same, EqualNumbers}
+use Rattle.meaning.specs.Sorted.{Same, EqualNumbers}
 use Rattle.meaning.specs.Statements.{KeepsShape, Congruent, GaussianShape}
-use Rattle.meaning.proofs.Shapes.{shape}
+use Rattle.meaning.proofs.Shapes.{at-type, shape}
 use Rattle.meaning.proofs.Congruence.{replace-serves}
 
 pub keeps-shape : {R : Type 0} (𝓐 : Arithmetic R) → KeepsShape 𝓐
@@ -23,15 +23,6 @@ congruent 𝓐 Γ χ W F t S at s u Q d e old new same =
     (r .0, r .1 χ F)
 
 -- ---- at a type, a meaning is its matrix
-module _ {R : Type 0} (𝓐 : Arithmetic R) where
-  proper-shaped : (χ : Choice R) (S : Sort) (x : Meaning R) → IsType S → Proper 𝓐 χ S x → Shaped 𝓐 χ S (x .matrix)
-  proper-shaped χ (index σ) x h p = absurd h
-  proper-shaped χ (basis σ) x h p = absurd h
-  proper-shaped χ scalar x h p = p
-  proper-shaped χ (ket σ) x h p = p
-  proper-shaped χ (bra σ) x h p = p
-  proper-shaped χ (operator σ τ) x h p = p
-
 pub same-alike : {R : Type 0} (S : Sort) (x y : Meaning R) → IsType S → Same S x y ↔ (x .matrix ≈ y .matrix)
 same-alike (index σ) x y h = absurd h
 same-alike (basis σ) x y h = absurd h
@@ -53,4 +44,4 @@ alike-numbers A B = (
 
 pub gaussian-shape : GaussianShape
 unfolding mean
-gaussian-shape Γ χ W F t S h d = proper-shaped gaussian χ S _ h (keeps-shape gaussian Γ χ W F t S d)
+gaussian-shape Γ χ W F t S h d = at-type gaussian χ S _ h .0 (keeps-shape gaussian Γ χ W F t S d)

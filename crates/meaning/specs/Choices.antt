@@ -34,7 +34,7 @@ pub record Meaning (R : Type 0) : Type 0 where
   pub matrix : Matrix R
 
 -- what each name stands for
-pub record Names (R : Type 0) : Type 0 where
+pub record NameMeanings (R : Type 0) : Type 0 where
   pub types : ℕ → Meaning R
   pub bases : ℕ → Meaning R
   pub variables : ℕ → Meaning R

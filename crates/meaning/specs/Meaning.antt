@@ -4,11 +4,13 @@ use mathlib.Core.List.{List, [], _∷_}
 use Prim.Native.Nat.{ℕ, _+_, _*_}
 use lib.ListN.{getElem?}
 use Rattle.algebra.specs.Semirings.{Arithmetic}
-use Rattle.algebra.specs.Matrices.{Matrix, number, kronecker-delta, zeros, identity as identity-matrix, unit-column, unit-row, scalar, add as add-matrix, scale as scale-matrix, mul, adjoint as adjoint-matrix, kronecker, sum-matrices}
-use Rattle.term.specs.Heads.{Label, type-name, basis-name, variable, index-product, pair, scalar-zero, scalar-one, scalar-sum, scalar-product, conjugate, delta, dot, zero-ket, zero-bra, zero-operator, identity, basis-ket, basis-bra, adjoint, scale, add, tensor, mulk, mulb, outer, mulo, bound-basis, big-sum}
+use Rattle.algebra.specs.Matrices.{Matrix, number, kronecker-delta, zeros, identity as identity-matrix, unit-column, unit-row, scalar, add as add-matrix, scale as scale-matrix, mul}
+use Rattle.algebra.specs.Matrices.{adjoint as adjoint-matrix, kronecker, sum-matrices}
+use Rattle.term.specs.Heads.{Label, type-name, basis-name, variable, index-product, pair, scalar-zero, scalar-one, scalar-sum, scalar-product, conjugate, delta, dot, zero-ket, zero-bra}
+use Rattle.term.specs.Heads.{zero-operator, identity, basis-ket, basis-bra, adjoint, scale, add, tensor, mulk, mulb, outer, mulo, bound-basis, big-sum}
 use Rattle.term.specs.Trees.{Tree, Forest, node, none, _▹_}
 use Rattle.types.specs.Sorts.{Context}
-use Rattle.meaning.specs.Choices.{Choice, push, Meaning, Names, an-index, a-basis, a-term, nothing}
+use Rattle.meaning.specs.Choices.{Choice, push, Meaning, NameMeanings, an-index, a-basis, a-term, nothing}
 
 module _ {R : Type 0} (𝓐 : Arithmetic R) where
   -- ---- children
@@ -39,7 +41,7 @@ module _ {R : Type 0} (𝓐 : Arithmetic R) where
   product cs = a-term (mul 𝓐 (first cs .matrix) (second cs .matrix))
 
   -- ---- each head, in the order of document 01's table, by what its children stand for: as they are, and `b` where a basis more is bound
-  unfoldable pub meaningOf : Names R → Label → (Meaning R → List (Meaning R)) → List (Meaning R) → Meaning R
+  unfoldable pub meaningOf : NameMeanings R → Label → (Meaning R → List (Meaning R)) → List (Meaning R) → Meaning R
   -- 01: "A type name has a dimension from 1 up; a product multiplies"
   meaningOf N (type-name a) b cs = N .types a
   meaningOf N index-product b cs = an-index 𝓐 (first cs .dimension * second cs .dimension)
@@ -80,14 +82,14 @@ module _ {R : Type 0} (𝓐 : Arithmetic R) where
   meaningOf N (bound-basis a) b cs = N .bounds a
   meaningOf N big-sum b cs = let d = first cs .dimension in a-term (sum-matrices 𝓐 d λ p. second (b (a-basis 𝓐 d p)) .matrix)
 
-  abbrev pub under : Names R → Meaning R → Names R
+  abbrev pub under : NameMeanings R → Meaning R → NameMeanings R
   under N x = record { types = N .types; bases = N .bases; variables = N .variables; bounds = push x (N .bounds) }
 
   unfoldable mutual
-    pub meaning : Names R → Tree → Meaning R
+    pub meaning : NameMeanings R → Tree → Meaning R
     meaning N (node l cs) = meaningOf N l (λ x. meanings (under N x) cs) (meanings N cs)
 
-    pub meanings : Names R → Forest → List (Meaning R)
+    pub meanings : NameMeanings R → Forest → List (Meaning R)
     meanings N none = []
     meanings N (t ▹ f) = meaning N t ∷ meanings N f
 
@@ -101,7 +103,7 @@ module _ {R : Type 0} (𝓐 : Arithmetic R) where
   declared χ undeclared = 0
   declared χ (some σ) = dimension χ σ
 
-  unfoldable pub names : Context → Choice R → Names R
+  unfoldable pub names : Context → Choice R → NameMeanings R
   names Γ χ =
       record {
         types = λ a. an-index 𝓐 (χ .dimension a);

@@ -4,7 +4,7 @@ use mathlib.Core.Option.{some}
 use Prim.Native.Nat.{ℕ, _≤_, _<_}
 use lib.ListN.{getElem?}
 use Rattle.algebra.specs.Semirings.{Arithmetic}
-use Rattle.algebra.specs.Matrices.{Matrix, _≈_, Shape}
+use Rattle.algebra.specs.Matrices.{Matrix, _≈_, HasShape}
 use Rattle.algebra.specs.Gaussian.{Gaussian}
 use Rattle.term.specs.Trees.{Tree}
 use Rattle.types.specs.Sorts.{Sort, index, basis, scalar, ket, bra, operator, Context}
@@ -17,10 +17,10 @@ module _ {R : Type 0} (𝓐 : Arithmetic R) where
   abbrev pub Shaped : Choice R → Sort → Matrix R → Type 0
   Shaped χ (index σ) A = Unit {0}
   Shaped χ (basis σ) A = Unit {0}
-  Shaped χ scalar A = Shape A 1 1
-  Shaped χ (ket σ) A = Shape A (dimension 𝓐 χ σ) 1
-  Shaped χ (bra σ) A = Shape A 1 (dimension 𝓐 χ σ)
-  Shaped χ (operator σ τ) A = Shape A (dimension 𝓐 χ σ) (dimension 𝓐 χ τ)
+  Shaped χ scalar A = HasShape A 1 1
+  Shaped χ (ket σ) A = HasShape A (dimension 𝓐 χ σ) 1
+  Shaped χ (bra σ) A = HasShape A 1 (dimension 𝓐 χ σ)
+  Shaped χ (operator σ τ) A = HasShape A (dimension 𝓐 χ σ) (dimension 𝓐 χ τ)
 
   -- 01: "A type name has a dimension from 1 up", "A basis name is an index from 0 below its dimension", "for each variable, the matrix, shaped as declared"; a sum is at an index of its
   -- dimension
@@ -40,13 +40,13 @@ module _ {R : Type 0} (𝓐 : Arithmetic R) where
       × (((a : ℕ) (σ : Tree) → getElem? (Γ .bases) a ≡ some σ → π a < dimension 𝓐 χ σ) → Fits Γ χ)
 
   -- what a part of a sort must stand for
-  abbrev pub Proper : Choice R → Sort → Meaning R → Type 0
-  Proper χ (index σ) x = x .dimension ≡ dimension 𝓐 χ σ
-  Proper χ (basis σ) x = (x .dimension ≡ dimension 𝓐 χ σ) × (x .position < dimension 𝓐 χ σ)
-  Proper χ scalar x = Shaped χ scalar (x .matrix)
-  Proper χ (ket σ) x = Shaped χ (ket σ) (x .matrix)
-  Proper χ (bra σ) x = Shaped χ (bra σ) (x .matrix)
-  Proper χ (operator σ τ) x = Shaped χ (operator σ τ) (x .matrix)
+  abbrev pub ProperMeaning : Choice R → Sort → Meaning R → Type 0
+  ProperMeaning χ (index σ) x = x .dimension ≡ dimension 𝓐 χ σ
+  ProperMeaning χ (basis σ) x = (x .dimension ≡ dimension 𝓐 χ σ) × (x .position < dimension 𝓐 χ σ)
+  ProperMeaning χ scalar x = Shaped χ scalar (x .matrix)
+  ProperMeaning χ (ket σ) x = Shaped χ (ket σ) (x .matrix)
+  ProperMeaning χ (bra σ) x = Shaped χ (bra σ) (x .matrix)
+  ProperMeaning χ (operator σ τ) x = Shaped χ (operator σ τ) (x .matrix)
 
 -- two parts of one sort stand for the same: dimensions, positions, matrices
 abbrev pub Same : {R : Type 0} → Sort → Meaning R → Meaning R → Type 0

@@ -10,7 +10,7 @@ use Rattle.types.specs.Inside.{inside}
 use Rattle.types.specs.Rules.{_⊢_∶_, WellFormed}
 use Rattle.meaning.specs.Choices.{Choice}
 use Rattle.meaning.specs.Meaning.{stands, mean}
-use Rattle.meaning.specs.Sorted.{Shaped, Fits, EveryChoice, Proper, Same}
+use Rattle.meaning.specs.Sorted.{Shaped, Fits, EveryChoice, ProperMeaning, Same}
 
 module _ {R : Type 0} (𝓐 : Arithmetic R) where
   -- no dimension from 1 up, no position inside its range and no entry is left out, where nothing is bound
@@ -19,7 +19,7 @@ module _ {R : Type 0} (𝓐 : Arithmetic R) where
 
   -- a part of a sort stands for what its sort says: a term has the shape of its type, a basis lies below its dimension
   abbrev pub KeepsShape : Type 0
-  KeepsShape = (Γ : Context) (χ : Choice R) → WellFormed Γ → Fits 𝓐 Γ χ → (t : Tree) (S : Sort) → Γ ⊢ t ∶ S → Proper 𝓐 χ S (stands 𝓐 Γ χ t)
+  KeepsShape = (Γ : Context) (χ : Choice R) → WellFormed Γ → Fits 𝓐 Γ χ → (t : Tree) (S : Sort) → Γ ⊢ t ∶ S → ProperMeaning 𝓐 χ S (stands 𝓐 Γ χ t)
 
   -- Where the part at an offset gives way to one of its sort that stands for the same, under every choice that fits the context there, the whole keeps its sort and stands for the same
   abbrev pub Congruent : Type 0

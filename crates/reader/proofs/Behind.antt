@@ -4,7 +4,7 @@ use mathlib.Core.Logic.{_≢_}
 use mathlib.Core.Bool.{Bool, true, false}
 use mathlib.Core.List.{List, [], _∷_}
 use mathlib.Core.Option.{some, none}
-use Prim.Native.Nat.{ℕ, _-_, _≤_}
+use Prim.Native.Nat.{ℕ, _-_, _≤_, _<_}
 use native.Mathlib.Omega.{arith}
 use borrow.Author.Tests.{eq-eqb, ne-eqb, leb-true, leb-false}
 use lib.Dec.{leb}
@@ -22,48 +22,60 @@ use Rattle.text.specs.Tokens.{tokensIn, toldTokens, stored}
 use Rattle.format.specs.Files.{File, namesOf}
 use Rattle.format.specs.Reading.{wordsBehind, takeTerm}
 use Rattle.format.specs.Kept.{declarationsOf, padded}
-use Rattle.format.specs.Files.{Sound}
+use Rattle.format.specs.Files.{WellDeclared}
 use Rattle.format.proofs.Declared.{names-declared}
 use Rattle.format.proofs.Padded.{stored-front, stored-words, stored-size}
-use Rattle.reader.specs.declared.terms.Term.{Term}
-use Rattle.reader.specs.Code.Lines.{fault, faultOf, Placed}
+use Rattle.reader.specs.declared.faults.Fault.{Fault}
+use Rattle.reader.specs.Code.Lines.{fault, Answers, wordsIn, WordsRead, Placed}
 
 -- so many words of a slice, as they were read into it
-pub front-words : (s : Text) (out : List ℕ) {ws out′ : List ℕ} {n : ℕ} → tokensIn s ≡ some ws → n ≡ length ws → out′ ≡ stored (parted space s) out 0 → n ≤ length out → take n out′ ≡ ws
+front-words : (s : Text) (out : List ℕ) {ws out′ : List ℕ} {n : ℕ} → tokensIn s ≡ some ws → n ≡ length ws → out′ ≡ stored (parted space s) out 0 → n ≤ length out → take n out′ ≡ ws
 front-words s out {ws} e f g h = rw (g, f) (stored-front s ws out e (omega arith))
 
--- ---- behind a letter
-abbrev pub Front : Text → ℕ → List ℕ → Type 0
-Front s size out = (ws : List ℕ) → wordsBehind s ≡ some ws → length ws ≤ size → take (length ws) out ≡ ws
+-- ---- the words of what is named
+module _ (kind : ℕ) (s : Text) (out : List ℕ) where
+  words-by : (t : Text) {r : Tokens} {out′ : List ℕ} → wordsIn kind s ≡ tokensIn t → r ≡ toldTokens (tokensIn t) → out′ ≡ stored (parted space t) out 0 → WordsRead kind s out r out′
+  words-by t z e o = record { size = ap length o ∙ stored-size (parted space t) out 0; answer = e ∙ ap toldTokens (sym z); front = λ ws k l. rw o (stored-front t ws out (sym z ∙ k) l) }
 
-pub behind-none : (s : Text) (out : List ℕ) → length s ≡ 0 → (Count 0 ≡ toldTokens (wordsBehind s)) × Front s (length out) out
-unfolding wordsBehind toldTokens
-behind-none [] out h = (refl, λ ws e l. let z : [] ≡ ws = cc in rw (sym z))
-behind-none (b ∷ s) out h = absurd (omega arith)
+  pub basis-words : {r : Tokens} {out′ : List ℕ} → kind ≡ 5 → r ≡ toldTokens (tokensIn s) → out′ ≡ stored (parted space s) out 0 → WordsRead kind s out r out′
+  unfolding wordsIn
+  basis-words h = words-by s (rw h)
 
-pub behind-unspaced : (s : Text) (out : List ℕ) → length s ≢ 0 → getD s 0 0 ≢ 32 → (Malformed ≡ toldTokens (wordsBehind s)) × Front s (length out) out
-unfolding wordsBehind toldTokens
-behind-unspaced [] out h g = absurd (h refl)
-behind-unspaced (b ∷ s) out h g = (rw (ne-eqb b space g), λ ws e l. absurd (let z : _≡_ {A = ℕ} 0 1 = cc (rw (ne-eqb b space g) at e) in omega arith))
+module _ (kind : ℕ) (other : kind ≢ 5) where
+  behind : (s : Text) → wordsIn kind s ≡ wordsBehind (drop 1 s)
+  unfolding wordsIn
+  behind s = rw (ne-eqb kind 5 other)
 
-pub behind-tokens : (s : Text) (out : List ℕ) {r : Tokens} {out′ : List ℕ} → length s ≢ 0 → getD s 0 0 ≡ 32
-    → r ≡ toldTokens (tokensIn (take (length s - 1) (drop 1 s))) → out′ ≡ stored (parted space (take (length s - 1) (drop 1 s))) out 0
-    → (r ≡ toldTokens (wordsBehind s)) × Front s (length out) out′
-unfolding wordsBehind
-behind-tokens [] out h g e o = absurd (h refl)
-behind-tokens (b ∷ s) out {r} {out′} h g e o =
-    let z : wordsBehind (b ∷ s) ≡ tokensIn s = rw (eq-eqb b space g) in
-    let t = to-end (b ∷ s) 1 in
-    let p : out′ ≡ stored (parted space s) out 0 = rw t at o in
-    ((rw t at e) ∙ rw z, λ ws k l. rw p (stored-front s ws out (sym z ∙ k) l))
+  pub behind-none : (s out : List ℕ) → length s < 2 → WordsRead kind s out (Count 0) out
+  unfolding wordsBehind toldTokens
+  behind-none [] out h = record { size = refl; answer = rw (behind []); front = λ ws k l. let z : [] ≡ ws = cc (sym (behind []) ∙ k) in rw (sym z) }
+  behind-none (b ∷ []) out h = record { size = refl; answer = rw (behind (b ∷ [])); front = λ ws k l. let z : [] ≡ ws = cc (sym (behind (b ∷ [])) ∙ k) in rw (sym z) }
+  behind-none (b ∷ d ∷ s) out h = absurd (omega arith)
 
-pub front-behind : (s : Text) (size : ℕ) {ws out : List ℕ} {n : ℕ} → Front s size out → wordsBehind s ≡ some ws → n ≡ length ws → n ≤ size → take n out ≡ ws
-front-behind s size {ws} f e g h = rw g (f ws e (omega arith))
+  pub behind-unspaced : (s out : List ℕ) → 2 ≤ length s → getD s 1 0 ≢ 32 → WordsRead kind s out Malformed out
+  unfolding wordsBehind toldTokens
+  behind-unspaced [] out h g = absurd (omega arith)
+  behind-unspaced (b ∷ []) out h g = absurd (omega arith)
+  behind-unspaced (b ∷ d ∷ s) out h g =
+      let z : wordsIn kind (b ∷ d ∷ s) ≡ none = behind (b ∷ d ∷ s) ∙ rw (ne-eqb d space g) in
+      record { size = refl; answer = rw z; front = λ ws k l. absurd (let y : _≡_ {A = ℕ} 0 1 = cc in omega arith) }
+
+  pub behind-tokens : (s out : List ℕ) {r : Tokens} {out′ : List ℕ} → 2 ≤ length s → getD s 1 0 ≡ 32 → r ≡ toldTokens (tokensIn (take (length s - 2) (drop 2 s)))
+      → out′ ≡ stored (parted space (take (length s - 2) (drop 2 s))) out 0 → WordsRead kind s out r out′
+  unfolding wordsBehind
+  behind-tokens [] out h g e o = absurd (omega arith)
+  behind-tokens (b ∷ []) out h g e o = absurd (omega arith)
+  behind-tokens (b ∷ d ∷ s) out h g e o =
+      let t = to-end (b ∷ d ∷ s) 2 in
+      words-by kind (b ∷ d ∷ s) out s (behind (b ∷ d ∷ s) ∙ rw (eq-eqb d space g)) (rw t at e) (rw t at o)
+
+pub front-read : {kind : ℕ} {s : Text} {out ws out′ : List ℕ} {r : Tokens} {n : ℕ} → WordsRead kind s out r out′ → wordsIn kind s ≡ some ws → n ≡ length ws → n ≤ length out → take n out′ ≡ ws
+front-read x e g h = rw g (x .front _ e (omega arith))
 
 -- ---- a term in its slice
-pub no-tokens-placed : (f : File) (s : Text) {line : ℕ} {r : Term} {out : List ℕ} → tokensIn s ≡ none → r .fault ≡ fault 5 line → Placed f line s r out
-unfolding takeTerm faultOf
-no-tokens-placed f s n a = record { answer = λ put. a ∙ rw n; words = λ ws k t. absurd (let z : _≡_ {A = ℕ} 0 1 = cc in omega arith) }
+pub no-tokens-placed : (f : File) (s : Text) {line : ℕ} {r : Fault} {out : List ℕ} → tokensIn s ≡ none → r ≡ fault 5 line → Placed f line s r out
+unfolding takeTerm Answers
+no-tokens-placed f s n a = record { answer = λ put. rw n a; words = λ ws k t. absurd (let z : _≡_ {A = ℕ} 0 1 = cc in omega arith) }
 
 -- the slice was cleared before
 pub cleared-all : (ws : List ℕ) (n : ℕ) → length ws ≡ n → cleared ws 0 ≡ replicate n 0
@@ -98,18 +110,18 @@ module _ (s : Text) (before ws : List ℕ) {out : List ℕ} {n : ℕ} (k : token
   words-in : (N : Names) → termWords N ws ≡ true → out ≡ padded ws
   words-in N t = in-zeros ∙ stored-words s ws k (term-few N ws t)
 
-  module _ (f : File) (sound : Sound f) (ds : List ℕ) (e : ds ≡ declarationsOf f) {N : Names} (m : N ≡ namesIn ds) where
+  module _ (f : File) (sound : WellDeclared f) (ds : List ℕ) (e : ds ≡ declarationsOf f) {N : Names} (m : N ≡ namesIn ds) where
     names-are : N ≡ namesOf f
     names-are = m ∙ rw e (names-declared f sound)
 
-    pub no-term-placed : {line : ℕ} {r : Term} → isTerm N out n ≡ false → r .fault ≡ fault 8 line → Placed f line s r out
-    unfolding takeTerm faultOf
+    pub no-term-placed : {line : ℕ} {r : Fault} → isTerm N out n ≡ false → r ≡ fault 8 line → Placed f line s r out
+    unfolding takeTerm Answers
     no-term-placed t a =
         let u : termWords (namesOf f) ws ≡ false = sym (test-is (namesOf f)) ∙ (rw names-are at t) in
-        record { answer = λ put. a ∙ rw (k, u); words = λ vs p q. absurd (let z : ws ≡ vs = cc in let y : _≡_ {A = ℕ} 0 1 = cc in omega arith) }
+        record { answer = λ put. rw (k, u) a; words = λ vs p q. absurd (let z : ws ≡ vs = cc in let y : _≡_ {A = ℕ} 0 1 = cc in omega arith) }
 
-    pub term-placed : {line : ℕ} {r : Term} → isTerm N out n ≡ true → r .fault ≡ fault 0 0 → r .length ≡ n → Placed f line s r out
-    unfolding takeTerm faultOf
-    term-placed t a b =
+    pub term-placed : {line : ℕ} {r : Fault} → isTerm N out n ≡ true → r ≡ fault 0 n → Placed f line s r out
+    unfolding takeTerm Answers
+    term-placed t a =
         let u : termWords (namesOf f) ws ≡ true = sym (test-is (namesOf f)) ∙ (rw names-are at t) in
-        record { answer = λ put. a ∙ rw (k, u); words = λ vs p q. let z : ws ≡ vs = cc in (words-in (namesOf f) u ∙ rw z, b ∙ l ∙ rw z) }
+        record { answer = λ put. rw (k, u) (ap (λ x. x .code) a); words = λ vs p q. let z : ws ≡ vs = cc in (words-in (namesOf f) u ∙ rw z, ap (λ x. x .at) a ∙ l ∙ rw z) }

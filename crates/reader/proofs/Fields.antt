@@ -2,15 +2,16 @@
 use mathlib.Core.Path.{_≡_, refl, sym, _∙_, ap}
 use mathlib.Core.Logic.{_≢_}
 use mathlib.Core.Bool.{Bool, true, false, cond}
-use mathlib.Core.List.{List, [], _∷_}
+use mathlib.Core.List.{List, [], _∷_, _++_}
 use mathlib.Core.Option.{Option, some, none}
-use Prim.Native.Nat.{ℕ, _+_, _-_, _≤_, _<_}
+use Prim.Native.Nat.{ℕ, suc, _+_, _-_, _≤_, _<_}
 use native.Mathlib.Nat.{zero-add}
+use native.Mathlib.Numerals.{add-one}
 use native.Mathlib.Omega.{arith}
-use borrow.Author.Tests.{eq-eqb, ne-eqb}
-use lib.Dec.{eqb}
-use lib.ListN.{length, take, drop, getD}
-use lib.Seq.{length-take-le, getD-take}
+use borrow.Author.Tests.{eq-eqb, ne-eqb, ltb-true, ltb-false}
+use lib.Dec.{eqb, ltb}
+use lib.ListN.{length, take, drop, getD, set}
+use lib.Seq.{length-take-le, getD-take, take-suc-set, take-all}
 use Rattle.words.specs.Words.{laid}
 use Rattle.words.proofs.Runs.{added}
 use Rattle.term.specs.declared.parts.Side.{Side}
@@ -26,15 +27,15 @@ use Rattle.cursor.specs.declared.Span.{Span}
 use Rattle.cursor.specs.Reading.{spanAt}
 use Rattle.cursor.proofs.Spans.{span-end, span-next}
 use Rattle.format.specs.Files.{File, maxField, Step}
-use Rattle.format.specs.Reading.{Line, wrong, full, sideIn, moveOf, moveIn, andStep, takeStep, takeEnd}
+use Rattle.format.specs.Reading.{full, sideIn, moveOf, moveIn, andStep, takeStep, takeEnd, takeValue}
 use Rattle.format.specs.Kept.{stepsOf}
 use Rattle.format.proofs.Stepped.{steps-more}
 use Rattle.reader.specs.declared.faults.Fault.{Fault}
-use Rattle.reader.specs.declared.stepping.Sided.{Sided}
 use Rattle.reader.specs.declared.stepping.Sided.the-variants as S
 use Rattle.reader.specs.declared.stepping.Field.{Field}
 use Rattle.reader.specs.declared.stepping.Field.the-variants as F
-use Rattle.reader.specs.Code.Lines.{fault, faultOf, Put, SideRead, named, unnamed, FieldRead, field, no-field}
+use Rattle.reader.specs.Code.Lines.{fault, Answers, SideRead, named, unnamed, FieldRead, field, no-field, moveBy, FieldsRead, StepTaken}
+use Rattle.reader.proofs.Named.{wrong-line}
 
 -- ---- the side
 module _ (s : Text) {r : Span} (e : r ≡ spanAt s 0 space) where
@@ -144,57 +145,48 @@ module _ (fs : List Text) where
 six : (q q₁ q₂ q₃ q₄ q₅ : Text) (fs : List Text) → moveIn (q ∷ q₁ ∷ q₂ ∷ q₃ ∷ q₄ ∷ q₅ ∷ fs) ≡ none
 six q q₁ q₂ q₃ q₄ q₅ fs = let z = ne-eqb (length (q ∷ q₁ ∷ q₂ ∷ q₃ ∷ q₄ ∷ q₅ ∷ fs)) 5 (λ e. omega arith) in rw (move-by, z)
 
--- a side and the numbers read behind it, the last one first, up to where the next field begins
-pub data Row (s : Text) (d : Side) : List ℕ → ℕ → Type 0 where
-  sided : SideRead s (S.Named d) → Row s d [] 2
-  more : {ns : List ℕ} {at n next : ℕ} → Row s d ns at → FieldRead s at (F.Number n next) → Row s d (n ∷ ns) next
+-- a side and so many numbers read behind it, up to where the next field begins
+pub data Row (s : Text) (d : Side) : ℕ → List ℕ → ℕ → Type 0 where
+  sided : SideRead s (S.Named d) → Row s d 0 [] 2
+  more : {i at n next : ℕ} {ns : List ℕ} → Row s d i ns at → FieldRead s at (F.Number n next) → Row s d (suc i) (ns ++ n ∷ []) next
 
 module _ {s : Text} where
   pub bad-side : SideRead s S.Malformed → moveIn (parted space s) ≡ none
   bad-side (unnamed e) = rw (← fields-all s) (no-first (fieldsFrom 0 s) e)
 
   module _ {d : Side} where
-    pub begun : {a : Sided} → SideRead s a → a ≡ S.Named d → Row s d [] 2
-    begun x e = sided (rw e at x)
+    pub and : (out : List ℕ) {i at n next : ℕ} {a : Field} → Row s d i (take i out) at → i < length out → FieldRead s at a → a ≡ F.Number n next
+        → Row s d (i + 1) (take (i + 1) (set out i n)) next
+    and out {i} {n = n} r h x e = rw (add-one, take-suc-set out i n h) (more r (rw e at x))
 
-    pub and : {ns : List ℕ} {at : ℕ} {a : Field} {n next : ℕ} → Row s d ns at → FieldRead s at a → a ≡ F.Number n next → Row s d (n ∷ ns) next
-    and r x e = more r (rw e at x)
+    pub whole : (out : List ℕ) (i : ℕ) {at : ℕ} → Row s d i (take i out) at → length out ≡ 4 → i ≡ 4 → Row s d 4 out at
+    whole out i r l e = let t = take-all i out (omega arith) in let z = rw t at r in rw e at z
 
-    pub bad-field : {ns : List ℕ} {at : ℕ} → Row s d ns at → length ns < 4 → FieldRead s at F.Malformed → moveIn (parted space s) ≡ none
-    bad-field (sided (named q e _)) l (no-field n) = rw (← fields-all s, e) (no-move _ λ a b x y r p i j. never n r)
-    bad-field (more (sided (named q e _)) (field q₁ e₁ _ _)) l (no-field n) = rw (← fields-all s, e, e₁) (no-move _ λ a b x y r p i j. never n p)
-    bad-field (more (more (sided (named q e _)) (field q₁ e₁ _ _)) (field q₂ e₂ _ _)) l (no-field n) =
+    no-row : {i at : ℕ} {ns : List ℕ} → Row s d i ns at → i < 4 → FieldRead s at F.Malformed → moveIn (parted space s) ≡ none
+    no-row (sided (named q e _)) l (no-field n) = rw (← fields-all s, e) (no-move _ λ a b x y r p i j. never n r)
+    no-row (more (sided (named q e _)) (field q₁ e₁ _ _)) l (no-field n) = rw (← fields-all s, e, e₁) (no-move _ λ a b x y r p i j. never n p)
+    no-row (more (more (sided (named q e _)) (field q₁ e₁ _ _)) (field q₂ e₂ _ _)) l (no-field n) =
         rw (← fields-all s, e, e₁, e₂) (no-move _ λ a b x y r p i j. never n i)
-    bad-field (more (more (more (sided (named q e _)) (field q₁ e₁ _ _)) (field q₂ e₂ _ _)) (field q₃ e₃ _ _)) l (no-field n) =
+    no-row (more (more (more (sided (named q e _)) (field q₁ e₁ _ _)) (field q₂ e₂ _ _)) (field q₃ e₃ _ _)) l (no-field n) =
         rw (← fields-all s, e, e₁, e₂, e₃) (no-move _ λ a b x y r p i j. never n j)
-    bad-field (more (more (more (more x _) _) _) _) l n = absurd (omega arith)
+    no-row (more (more (more (more x _) _) _) _) l n = absurd (omega arith)
 
-    module _ {r p i j end : ℕ} where
-      pub more-fields : Row s d (j ∷ i ∷ p ∷ r ∷ []) end → end ≤ length s → moveIn (parted space s) ≡ none
-      more-fields (more (more (more (more (sided (named q e _)) (field q₁ e₁ _ _)) (field q₂ e₂ _ _)) (field q₃ e₃ _ _)) (field q₄ e₄ _ _)) l =
-          rw (← fields-all s, e, e₁, e₂, e₃, e₄, fields-more s end refl l) (six q q₁ q₂ q₃ q₄ _ _)
+    pub bad-field : {i at : ℕ} {ns : List ℕ} {m : Move} → Row s d i ns at → i < 4 → FieldRead s at F.Malformed → FieldsRead s m false
+    bad-field r l n = record { move = λ t. absurd (let z : _≡_ {A = ℕ} 0 1 = cc in omega arith); none = λ t. no-row r l n }
 
-      pub five-fields : Row s d (j ∷ i ∷ p ∷ r ∷ []) end → length s < end
-          → moveIn (parted space s) ≡ some (record { side = d; step = record { rule = r; place = p; i = i; j = j } })
-      unfolding moveOf
-      five-fields (more (more (more (more (sided (named q e g)) (field q₁ e₁ g₁ _)) (field q₂ e₂ g₂ _)) (field q₃ e₃ g₃ _)) (field q₄ e₄ g₄ _)) l =
-          rw (← fields-all s, e, e₁, e₂, e₃, e₄, fields-end s end l, move-by, g, g₁, g₂, g₃, g₄)
+    pub all-fields : {ns : List ℕ} {end : ℕ} → Row s d 4 ns end → FieldsRead s (moveBy d ns) (ltb (length s) end)
+    unfolding moveOf
+    all-fields {end = end} (more (more (more (more (sided (named q e g)) (field q₁ e₁ g₁ _)) (field q₂ e₂ g₂ _)) (field q₃ e₃ g₃ _)) (field q₄ e₄ g₄ _)) =
+        record {
+          move = λ t. rw (← fields-all s, e, e₁, e₂, e₃, e₄, fields-end s end (ltb-true _ _ t), move-by, g, g₁, g₂, g₃, g₄);
+          none = λ t. rw (← fields-all s, e, e₁, e₂, e₃, e₄, fields-more s end refl (ltb-false _ _ t)) (six q q₁ q₂ q₃ q₄ _ _);
+        }
 
 -- ---- a step line
 put-size : (t : Bool) (ws : List ℕ) (k : ℕ) (m : Move) → hasRoom ws k ≡ t → length (stepPut ws k m) ≡ length ws
 unfolding stepPut
 put-size true ws k m e = rw e (added ws (stepAt k) (stepWordsOf m) (laid ws (stepAt k) (stepWordsOf m)) _ refl refl .size)
 put-size false ws k m e = rw e
-
-abbrev pub Taken : Text → ℕ → ℕ → List ℕ → Fault → List ℕ → Type 0
-Taken s line k ws r out =
-    (length out ≡ length ws)
-    × ((f : File) → length (f .steps) ≤ 1000 → k ≡ length (f .steps) → ws ≡ stepsOf f
-    → Put stepsOf line (cond (full Step f) (wrong 6) (takeStep f (moveIn (parted space s)))) r out)
-
-refuses : {made : File → List ℕ} {n c : ℕ} {l : Line} {r : Fault} {out : List ℕ} → l ≡ wrong c → r ≡ fault c n → Put made n l r out
-unfolding faultOf
-refuses e q = record { answer = rw (e, q); words = λ g f. absurd (let z : _≡_ {A = ℕ} 0 1 = cc in omega arith) }
 
 module _ (f : File) where
   is-full : length (f .steps) ≡ maxSteps → full Step f ≡ true
@@ -210,29 +202,29 @@ module _ (f : File) where
   one-more m = sym (steps-more _ 0 (f .steps) m ∙ rw zero-add)
 
 module _ (s : Text) (line k : ℕ) (ws : List ℕ) {r : Fault} where
-  pub no-room : k ≡ maxSteps → r ≡ fault 6 line → Taken s line k ws r ws
-  no-room h e = (refl, λ f l n w. refuses (rw (is-full f (omega arith))) e)
+  pub no-room : k ≡ maxSteps → r ≡ fault 6 line → StepTaken s line k ws r ws
+  no-room h e = (refl, λ f l n w. wrong-line e (rw (is-full f (omega arith))))
 
-  pub no-step : k ≢ maxSteps → moveIn (parted space s) ≡ none → r ≡ fault 5 line → Taken s line k ws r ws
-  unfolding takeStep
-  no-step h m e = (refl, λ f l n w. refuses (rw (not-full f (λ x. h (n ∙ x)), m)) e)
+  pub no-step : k ≢ maxSteps → moveIn (parted space s) ≡ none → r ≡ fault 5 line → StepTaken s line k ws r ws
+  unfolding takeValue takeStep
+  no-step h m e = (refl, λ f l n w. wrong-line e (rw (not-full f (λ x. h (n ∙ x)), m)))
 
-  pub a-step : {m : Move} {out : List ℕ} → k ≢ maxSteps → moveIn (parted space s) ≡ some m → r ≡ fault 0 0 → out ≡ stepPut ws k m → Taken s line k ws r out
-  unfolding takeStep faultOf
+  pub a-step : {m : Move} {out : List ℕ} → k ≢ maxSteps → moveIn (parted space s) ≡ some m → r ≡ fault 0 0 → out ≡ stepPut ws k m → StepTaken s line k ws r out
+  unfolding takeValue takeStep Answers
   a-step {m} h o e p =
-      (rw p (put-size _ ws k m refl), λ f l n w. rw (not-full f (λ x. h (n ∙ x)), o) record { answer = e; words = λ g x. rw (p, w, n, one-more f m) (ap stepsOf cc) })
+      (rw p (put-size _ ws k m refl), λ f l n w. rw (not-full f (λ x. h (n ∙ x)), o) record { answer = ap (λ x. x .code) e; words = λ g x. rw (p, w, n, one-more f m) (ap stepsOf cc) })
 
 -- ---- the last line
 module _ (f : File) (line : ℕ) (o : Option ℕ) where
-  pub no-end : told o ≡ N.Malformed → faultOf line (takeEnd f o) ≡ fault 5 line
-  unfolding takeEnd faultOf
-  no-end e = rw (no-number o e)
+  pub no-end : {r : Fault} → told o ≡ N.Malformed → r ≡ fault 5 line → Answers line (takeEnd f o) r
+  unfolding takeEnd Answers
+  no-end e a = rw (no-number o e) a
 
   module _ {k v : ℕ} (few : k ≤ 1000) (n : k ≡ length (f .steps)) (e : told o ≡ N.Value v) where
-    pub other-end : v ≢ k → faultOf line (takeEnd f o) ≡ fault 9 line
-    unfolding takeEnd faultOf
-    other-end h = let a = a-number o v e in let b = a .2 in rw (a .1, ne-eqb (a .0) (length (f .steps)) λ x. h (omega arith))
+    pub other-end : {r : Fault} → v ≢ k → r ≡ fault 9 line → Answers line (takeEnd f o) r
+    unfolding takeEnd Answers
+    other-end h q = let a = a-number o v e in let b = a .2 in rw (a .1, ne-eqb (a .0) (length (f .steps)) λ x. h (omega arith)) q
 
-    pub same-end : v ≡ k → faultOf line (takeEnd f o) ≡ fault 0 0
-    unfolding takeEnd faultOf
-    same-end h = let a = a-number o v e in let b = a .2 in rw (a .1, eq-eqb (a .0) (length (f .steps)) (omega arith))
+    pub same-end : {r : Fault} → v ≡ k → r ≡ fault 0 0 → Answers line (takeEnd f o) r
+    unfolding takeEnd Answers
+    same-end h q = let a = a-number o v e in let b = a .2 in rw (a .1, eq-eqb (a .0) (length (f .steps)) (omega arith)) (ap (λ x. x .code) q)

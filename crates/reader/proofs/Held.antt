@@ -6,29 +6,30 @@ use mathlib.Core.List.{List, [], _∷_, _++_}
 use mathlib.Core.Option.{Option, some, none}
 use Prim.Native.Nat.{ℕ, _+_, _≤_}
 use native.Mathlib.Omega.{arith}
-use borrow.Author.Tests.{eq-eqb, eqb-true}
-use lib.Dec.{eqb}
-use lib.ListN.{length, length-append}
+use borrow.Author.Tests.{eqb-true, leb-true, leb-false}
+use lib.Dec.{eqb, leb}
+use lib.ListN.{length, length-append, List·getD-eq-default}
 use Rattle.term.specs.Terms.{maxNames, termWords}
 use Rattle.rules.specs.Steps.{Move}
+use Rattle.lent.specs.Lent.{maxSteps}
 use Rattle.text.specs.Pieces.{Text, space, parted}
 use Rattle.text.specs.Numbers.{numberIn, atMost}
 use Rattle.text.specs.Tokens.{tokensIn}
-use Rattle.format.specs.Files.{Key, Types, Basis, Var, LeftTerm, RightTerm, Step, End, File, Sound, namesOf, keyText}
-use Rattle.format.specs.Reading.{Line, wrong, good, nothing, fits, full, stageAfter, takeValue, takeTypes, takeBasis, takeVariable, takeTerm, takeStep, takeEnd, keyLine}
-use Rattle.format.specs.Reading.{variableIn, moveIn, andLeft, andRight, andStep}
-use Rattle.format.specs.Kept.{declarationsOf, padded, stepsOf}
+use Rattle.format.specs.Files.{Key, Types, Basis, Var, LeftTerm, RightTerm, Step, End, Other, File, WellDeclared, namesOf, keyText}
+use Rattle.format.specs.Reading.{Line, wrong, good, nothing, fits, full, stageAfter, takeValue, takeTypes, takeTerm, takeStep, takeEnd, keyLine}
+use Rattle.format.specs.Reading.{moveIn, andLeft, andRight, andStep}
+use Rattle.format.specs.Kept.{declarationsOf, stepsOf}
 use Rattle.format.proofs.Lines.{key-taken}
 use Rattle.format.specs.Code.Reached.{Reached, start, bases, variables, left-side, steps, done}
 use Rattle.format.proofs.Reached.{goes-on}
 use Rattle.format.proofs.Values as Vals
 use Rattle.format.proofs.Values.{Value, taken-value}
 use Rattle.reader.specs.declared.faults.Fault.{Fault}
-use Rattle.reader.specs.declared.terms.Term.{Term}
 use Rattle.reader.specs.declared.walking.State.{State}
 use Rattle.reader.specs.declared.walking.Taken.{Taken}
-use Rattle.reader.specs.Code.Lines.{fault, faultOf, Put, Placed}
-use Rattle.reader.specs.Code.Holding.{Holding, After}
+use Rattle.reader.specs.Code.Keys.{keys, keyAt}
+use Rattle.reader.specs.Code.Lines.{fault, Answers, ordered, Put, Placed}
+use Rattle.reader.specs.Code.Holding.{Holding, stateAfter, Valued, After}
 
 -- ---- what a stage says of the file
 at-start : {s : ℕ} {f : File} {ls : List Text} → Reached s f ls → s ≡ 0 → f ≡ nothing
@@ -39,7 +40,7 @@ at-start (left-side d n l) e = absurd (omega arith)
 at-start (steps x) e = absurd (omega arith)
 at-start (done x) e = absurd (omega arith)
 
-sound-at : {s : ℕ} {f : File} {ls : List Text} → Reached s f ls → s ≢ 0 → Sound f
+sound-at : {s : ℕ} {f : File} {ls : List Text} → Reached s f ls → s ≢ 0 → WellDeclared f
 sound-at start e = absurd (e refl)
 sound-at (bases d v n) e = d
 sound-at (variables d n) e = d
@@ -54,6 +55,14 @@ no-variables-at (variables d n) e = absurd (omega arith)
 no-variables-at (left-side d n l) e = absurd (omega arith)
 no-variables-at (steps x) e = absurd (omega arith)
 no-variables-at (done x) e = absurd (omega arith)
+
+pub stage-few : {s : ℕ} {f : File} {ls : List Text} → Reached s f ls → s ≤ 5
+stage-few start = omega arith
+stage-few (bases d v n) = omega arith
+stage-few (variables d n) = omega arith
+stage-few (left-side d n l) = omega arith
+stage-few (steps x) = omega arith
+stage-few (done x) = omega arith
 
 pub few-steps-at : {s : ℕ} {f : File} {ls : List Text} → Reached s f ls → length (f .steps) ≤ 1000
 few-steps-at start = omega arith
@@ -86,20 +95,42 @@ steps-kept Vals.end l = absurd (omega arith)
 -- ---- a line out of order
 pub disordered : (k : Key) (s : ℕ) (f : File) (v : Text) {n : ℕ} {r : Taken} {ds ls rs ms : List ℕ} → fits k s ≡ false → r .fault ≡ fault 4 n
     → After n k (keyLine k s f v) r ds ls rs ms
-unfolding keyLine faultOf
+unfolding keyLine Answers
 disordered k s f v e a =
     let never : (g : File) → keyLine k s f v ≡ good g → ⊥ = λ g h. let y = rw e at h in let z : _≡_ {A = ℕ} 0 1 = cc in omega arith in
-    record { answer = a ∙ rw e; stage = λ g h. absurd (never g h); holding = λ g h. absurd (never g h) }
+    record { answer = rw e a; stage = λ g h. absurd (never g h); holding = λ g h. absurd (never g h) }
 
--- ---- a line in order: its answer, and of what it holds the parts but for the lines so far
-record Rest (s : State) (g : File) (ds ls rs ms : List ℕ) : Type 0 where
-  declarations : s .stage ≢ 0 → ds ≡ declarationsOf g
-  left : 3 ≤ s .stage → (ls ≡ padded (g .left)) × (s .left ≡ length (g .left))
-  right : 4 ≤ s .stage → (rs ≡ padded (g .right)) × (s .right ≡ length (g .right))
-  steps : (ms ≡ stepsOf g) × (s .steps ≡ length (g .steps))
+-- ---- a line in order
+pub line-after : (k : ℕ) (s : State) (f : File) (v : Text) {n : ℕ} {r : Fault} {t : State} {ds ls rs ms es ks qs ns : List ℕ} → fits (keyAt k) (s .stage) ≡ true → Holding s f ds ls rs ms
+    → t ≡ stateAfter k s (r .at) → Valued n k s f v r es ks qs ns → After n (keyAt k) (keyLine (keyAt k) (s .stage) f v) (record { fault = r; state = t }) es ks qs ns
+unfolding keyLine
+line-after k s f v fit h e x =
+    let o : keyLine (keyAt k) (s .stage) f v ≡ ordered (keyAt k) f v = rw fit in
+    record {
+      answer = rw fit (x .answer);
+      stage = λ g q. ap (λ x. x .stage) e;
+      holding = λ g q.
+          rw e record {
+            lines = h .lines ++ (keyText (keyAt k) ++ v) ∷ [];
+            reached = goes-on (key-taken (keyAt k) (s .stage) f v g q) (h .reached);
+            kept = x .kept g (sym o ∙ q);
+          };
+    }
 
-abbrev ordered : Key → File → Text → Line
-ordered k f v = cond (full k f) (wrong 6) (takeValue k f v)
+-- what the match on a key's number tells
+pub arm : {k i n : ℕ} {s : State} {f : File} {v : Text} {r : Fault} {es ks qs ns : List ℕ} → k ≡ i → (fits (keyAt i) (s .stage) ≡ true → Valued n i s f v r es ks qs ns)
+    → fits (keyAt k) (s .stage) ≡ true → Valued n k s f v r es ks qs ns
+arm e p fit = rw e (p (rw e at fit))
+
+pub last-key : (k s : ℕ) → 6 ≤ k → fits (keyAt k) s ≡ true → k ≡ 6
+unfolding fits
+last-key k s h e = go (leb k 6) refl
+  where
+    go : (t : Bool) → leb k 6 ≡ t → k ≡ 6
+    go true p = let q = leb-true k 6 p in omega arith
+    go false p =
+        let q = leb-false k 6 p in
+        let y = rw (List·getD-eq-default keys Other {n = k} (omega arith)) at e in absurd (let z : _≡_ {A = ℕ} 0 1 = cc in omega arith)
 
 value-good : (t : Bool) {l : Line} {g : File} → cond t (wrong 6) l ≡ good g → l ≡ good g
 value-good true e = absurd (let z : _≡_ {A = ℕ} 0 1 = cc in omega arith)
@@ -131,108 +162,88 @@ end-taken f g (some n) e = by (eqb n (length (f .steps))) e
     by true e = cc
     by false e = absurd (let z : _≡_ {A = ℕ} 0 1 = cc in omega arith)
 
--- what only moves on
-abbrev atStage : ℕ → State → State
-atStage stage s = record { stage = stage; left = s .left; right = s .right; steps = s .steps }
-
-module _ (k : Key) (s : State) (f : File) (v : Text) (fit : fits k (s .stage) ≡ true) where
-  in-order : keyLine k (s .stage) f v ≡ ordered k f v
-  unfolding keyLine
-  in-order = rw fit
-
-  line-after : {n : ℕ} {r : Taken} {ds ls rs ms es ks qs ns : List ℕ} → Holding s f ds ls rs ms → r .state .stage ≡ stageAfter k → r .fault ≡ faultOf n (ordered k f v)
-      → ((g : File) → ordered k f v ≡ good g → takeValue k f v ≡ good g → Rest (r .state) g es ks qs ns) → After n k (keyLine k (s .stage) f v) r es ks qs ns
-  line-after {n} h e a p = record {
-    answer = a ∙ ap (faultOf n) (sym in-order);
-    stage = λ g q. e;
-    holding = λ g q.
-        let o = sym in-order ∙ q in
-        let x = p g o (value-good (full k f) o) in
-        record {
-          lines = h .lines ++ (keyText k ++ v) ∷ [];
-          reached = rw e (goes-on (key-taken k (s .stage) f v g q) (h .reached));
-          declarations = x .declarations;
-          left = x .left;
-          right = x .right;
-          steps = x .steps;
-        };
+-- ---- the value of each key, by what its function promises
+module _ (s : State) (f : File) (v : Text) {n : ℕ} {ds ls rs ms : List ℕ} (h : Holding s f ds ls rs ms) {r : Fault} where
+  declared-valued : (k : ℕ) {es : List ℕ} → eqb k 5 ≡ false → stageAfter (keyAt k) ≤ 2 → Put declarationsOf n (ordered (keyAt k) f v) r es → Valued n k s f v r es ls rs ms
+  declared-valued k e l p = record {
+    answer = p .answer;
+    kept = λ g o.
+        let z = steps-kept (taken-value (keyAt k) f v g (value-good (full (keyAt k) f) o)) l in
+        let m = h .kept .steps in
+        record { declarations = λ x. p .words g o; left = λ x. absurd (omega arith); right = λ x. absurd (omega arith); steps = (m .0 ∙ z .0, rw e (m .1 ∙ z .1)) };
   }
 
-  -- types, bases and variables
-  declared-after : {n : ℕ} {a : Fault} {r : Taken} {ds ls rs ms es : List ℕ} → stageAfter k ≤ 2 → Holding s f ds ls rs ms
-      → r ≡ record { fault = a; state = atStage (stageAfter k) s } → Put declarationsOf n (ordered k f v) a es
-      → After n k (keyLine k (s .stage) f v) r es ls rs ms
-  declared-after l h e p = rw e (line-after h refl (p .answer) λ g o w.
-      let z = steps-kept (taken-value k f v g w) l in
-      record {
-        declarations = λ x. p .words g o;
-        left = λ x. absurd (omega arith);
-        right = λ x. absurd (omega arith);
-        steps = (h .steps .0 ∙ z .0, h .steps .1 ∙ z .1);
-      })
+  pub types-valued : {es : List ℕ} → ((f : File) → f .bases ≡ [] → f .variables ≡ [] → Put declarationsOf n (takeTypes f (atMost maxNames v)) r es)
+      → fits Types (s .stage) ≡ true → Valued n 0 s f v r es ls rs ms
+  unfolding fits full takeValue
+  types-valued p z =
+      let q = at-start (h .reached) (eqb-true _ _ z) in declared-valued 0 refl (omega arith) (p f (ap (λ x. x .bases) q) (ap (λ x. x .variables) q))
 
--- ---- a line of each key, by what its function promises
-module _ (s : State) (f : File) (v : Text) {n : ℕ} {ds ls rs ms : List ℕ} (h : Holding s f ds ls rs ms) where
-  module _ {a : Fault} {r : Taken} where
-    pub types-after : {es : List ℕ} → s .stage ≡ 0 → r ≡ record { fault = a; state = atStage 1 s }
-        → ((f : File) → f .bases ≡ [] → f .variables ≡ [] → Put declarationsOf n (takeTypes f (atMost maxNames v)) a es) → After n Types (keyLine Types (s .stage) f v) r es ls rs ms
-    unfolding fits full takeValue
-    types-after z e p =
-        let q = at-start (h .reached) z in
-        declared-after Types s f v (eq-eqb (s .stage) 0 z) (omega arith) h e (p f (ap (λ x. x .bases) q) (ap (λ x. x .variables) q))
-
-    pub basis-after : {es : List ℕ} → s .stage ≡ 1 → r ≡ record { fault = a; state = atStage 1 s }
-        → ((f : File) → Sound f → f .variables ≡ [] → ds ≡ declarationsOf f → Put declarationsOf n (cond (full Basis f) (wrong 6) (takeBasis f (tokensIn v))) a es)
-        → After n Basis (keyLine Basis (s .stage) f v) r es ls rs ms
-    unfolding fits takeValue
-    basis-after z e p =
+  -- a basis or a variable
+  module _ {es : List ℕ} {k : ℕ} (p : (f : File) → WellDeclared f → (k ≡ 1 → f .variables ≡ []) → ds ≡ declarationsOf f → Put declarationsOf n (ordered (keyAt k) f v) r es) where
+    pub basis-valued : k ≡ 1 → fits Basis (s .stage) ≡ true → Valued n 1 s f v r es ls rs ms
+    unfolding fits
+    basis-valued i z =
+        let y : s .stage ≡ 1 = eqb-true _ _ z in
         let b : s .stage ≢ 0 = λ x. omega arith in
-        declared-after Basis s f v (eq-eqb (s .stage) 1 z) (omega arith) h e (p f (sound-at (h .reached) b) (no-variables-at (h .reached) z) (h .declarations b))
+        declared-valued 1 refl (omega arith) (rw i at (p f (sound-at (h .reached) b) (λ i. no-variables-at (h .reached) y) (h .kept .declarations b)))
 
-    pub variable-after : {es : List ℕ} → (eqb (s .stage) 1 || eqb (s .stage) 2) ≡ true → r ≡ record { fault = a; state = atStage 2 s }
-        → ((f : File) → Sound f → ds ≡ declarationsOf f → Put declarationsOf n (cond (full Var f) (wrong 6) (takeVariable f (variableIn v))) a es)
-        → After n Var (keyLine Var (s .stage) f v) r es ls rs ms
-    unfolding fits takeValue
-    variable-after z e p = let b = begun (s .stage) z in declared-after Var s f v z (omega arith) h e (p f (sound-at (h .reached) b) (h .declarations b))
-
-  module _ {t : Term} {out : List ℕ} (p : (f : File) → Sound f → ds ≡ declarationsOf f → Placed f n v t out) where
-    pub left-after : (eqb (s .stage) 1 || eqb (s .stage) 2) ≡ true
-        → After n LeftTerm (keyLine LeftTerm (s .stage) f v) (record { fault = t .fault; state = record { stage = 3; left = t .length; right = s .right; steps = s .steps } }) ds out rs ms
-    unfolding fits full takeValue declarationsOf stepsOf
-    left-after z =
+    pub variable-valued : k ≡ 2 → fits Var (s .stage) ≡ true → Valued n 2 s f v r es ls rs ms
+    unfolding fits
+    variable-valued i z =
         let b = begun (s .stage) z in
-        let x = p f (sound-at (h .reached) b) (h .declarations b) in
-        line-after LeftTerm s f v z h refl (x .answer (andLeft f)) λ g o w.
-        let q = term-taken f g (andLeft f) (tokensIn v) w in
-        rw (← q .3) record { declarations = λ y. h .declarations b; left = λ y. x .words (q .0) (q .1) (q .2); right = λ y. absurd (omega arith); steps = h .steps }
+        declared-valued 2 refl (omega arith) (rw i at (p f (sound-at (h .reached) b) (λ j. absurd (omega arith)) (h .kept .declarations b)))
 
-    pub right-after : s .stage ≡ 3
-        → After n RightTerm (keyLine RightTerm (s .stage) f v) (record { fault = t .fault; state = record { stage = 4; left = s .left; right = t .length; steps = s .steps } }) ds ls out ms
+  module _ {out : List ℕ} (p : (f : File) → WellDeclared f → ds ≡ declarationsOf f → Placed f n v r out) where
+    pub left-valued : fits LeftTerm (s .stage) ≡ true → Valued n 3 s f v r ds out rs ms
     unfolding fits full takeValue declarationsOf stepsOf
-    right-after z =
+    left-valued z =
+        let b = begun (s .stage) z in
+        let x = p f (sound-at (h .reached) b) (h .kept .declarations b) in
+        record {
+          answer = x .answer (andLeft f);
+          kept = λ g o.
+              let q = term-taken f g (andLeft f) (tokensIn v) o in
+              rw (← q .3) record { declarations = λ y. h .kept .declarations b; left = λ y. x .words (q .0) (q .1) (q .2); right = λ y. absurd (omega arith); steps = h .kept .steps };
+        }
+
+    pub right-valued : fits RightTerm (s .stage) ≡ true → Valued n 4 s f v r ds ls out ms
+    unfolding fits full takeValue declarationsOf stepsOf
+    right-valued z =
+        let e : s .stage ≡ 3 = eqb-true _ _ z in
         let b : s .stage ≢ 0 = λ x. omega arith in
-        let x = p f (sound-at (h .reached) b) (h .declarations b) in
-        line-after RightTerm s f v (eq-eqb (s .stage) 3 z) h refl (x .answer (andRight f)) λ g o w.
-        let q = term-taken f g (andRight f) (tokensIn v) w in
-        rw (← q .3) record { declarations = λ y. h .declarations b; left = λ y. h .left (omega arith); right = λ y. x .words (q .0) (q .1) (q .2); steps = h .steps }
+        let x = p f (sound-at (h .reached) b) (h .kept .declarations b) in
+        record {
+          answer = x .answer (andRight f);
+          kept = λ g o.
+              let q = term-taken f g (andRight f) (tokensIn v) o in
+              rw (← q .3) record { declarations = λ y. h .kept .declarations b; left = λ y. h .kept .left (omega arith); right = λ y. x .words (q .0) (q .1) (q .2); steps = h .kept .steps };
+        }
 
-  module _ {a : Fault} (z : s .stage ≡ 4) where
-    pub step-after : {out : List ℕ} → ((f : File) → length (f .steps) ≤ 1000 → s .steps ≡ length (f .steps) → ms ≡ stepsOf f
-        → Put stepsOf n (cond (full Step f) (wrong 6) (takeStep f (moveIn (parted space v)))) a out)
-        → After n Step (keyLine Step (s .stage) f v) (record { fault = a; state = record { stage = 4; left = s .left; right = s .right; steps = s .steps + 1 } }) ds ls rs out
-    unfolding fits takeValue declarationsOf
-    step-after {out} p =
-        let x = p f (few-steps-at (h .reached)) (h .steps .1) (h .steps .0) in
-        line-after Step s f v (eq-eqb (s .stage) 4 z) h refl (x .answer) λ g o w.
-        let q = move-taken f g (moveIn (parted space v)) w in
-        let l : s .steps + 1 ≡ length (f .steps ++ q .0 ∷ []) = omega (arith, h .steps .1, length-append (f .steps) (q .0 ∷ [])) in
-        let u : out ≡ stepsOf (andStep f (q .0)) = x .words g o ∙ ap stepsOf (sym (q .1)) in
-        rw (← q .1) record { declarations = λ y. h .declarations (λ i. omega arith); left = λ y. h .left (omega arith); right = λ y. h .right (omega arith); steps = (u, l) }
+  pub step-valued : {out : List ℕ} → ((f : File) → length (f .steps) ≤ maxSteps → s .steps ≡ length (f .steps) → ms ≡ stepsOf f → Put stepsOf n (ordered Step f v) r out)
+      → fits Step (s .stage) ≡ true → Valued n 5 s f v r ds ls rs out
+  unfolding fits takeValue declarationsOf
+  step-valued {out} p z =
+      let e : s .stage ≡ 4 = eqb-true _ _ z in
+      let k = h .kept in
+      let x = p f (few-steps-at (h .reached)) (k .steps .1) (k .steps .0) in
+      record {
+        answer = x .answer;
+        kept = λ g o.
+            let q = move-taken f g (moveIn (parted space v)) (value-good (full Step f) o) in
+            let l : s .steps + 1 ≡ length (f .steps ++ q .0 ∷ []) = omega (arith, k .steps .1, length-append (f .steps) (q .0 ∷ [])) in
+            let u : out ≡ stepsOf (andStep f (q .0)) = x .words g o ∙ ap stepsOf (sym (q .1)) in
+            rw (← q .1) record { declarations = λ y. k .declarations (λ i. omega arith); left = λ y. k .left (omega arith); right = λ y. k .right (omega arith); steps = (u, l) };
+      }
 
-    pub end-after : {r : Taken} → r ≡ record { fault = a; state = atStage 5 s } → ((f : File) → s .steps ≡ length (f .steps) → a ≡ faultOf n (takeEnd f (numberIn v)))
-        → After n End (keyLine End (s .stage) f v) r ds ls rs ms
-    unfolding fits full takeValue
-    end-after e p =
-        rw e (line-after End s f v (eq-eqb (s .stage) 4 z) h refl (p f (h .steps .1)) λ g o w.
-        rw (← end-taken f g (numberIn v) w)
-        record { declarations = λ y. h .declarations (λ i. omega arith); left = λ y. h .left (omega arith); right = λ y. h .right (omega arith); steps = h .steps })
+  pub end-valued : ((f : File) → s .steps ≡ length (f .steps) → Answers n (takeEnd f (numberIn v)) r) → fits End (s .stage) ≡ true → Valued n 6 s f v r ds ls rs ms
+  unfolding fits full takeValue
+  end-valued p z =
+      let e : s .stage ≡ 4 = eqb-true _ _ z in
+      let k = h .kept in
+      record {
+        answer = p f (k .steps .1);
+        kept = λ g o.
+            rw (← end-taken f g (numberIn v) o)
+            record { declarations = λ y. k .declarations (λ i. omega arith); left = λ y. k .left (omega arith); right = λ y. k .right (omega arith); steps = k .steps };
+      }

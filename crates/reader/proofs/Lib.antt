@@ -3,6 +3,6 @@ mod Named
 mod Behind
 mod Fields
 mod Held
-mod Keys
+mod Keyed
 mod Walked
 mod Entered

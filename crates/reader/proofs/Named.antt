@@ -1,19 +1,19 @@
 -- A line that declares: what the code answers to it, and the declarations that it leaves.
-use mathlib.Core.Path.{_≡_, refl, sym, _∙_}
+use mathlib.Core.Path.{_≡_, refl, sym, _∙_, ap}
 use mathlib.Core.Logic.{_≢_}
-use mathlib.Core.Bool.{Bool, true, false, cond, not}
+use mathlib.Core.Bool.{Bool, true, false, cond}
 use mathlib.Core.List.{List, [], _∷_}
 use mathlib.Core.Option.{Option, some, none}
-use Prim.Native.Nat.{ℕ, _-_, _≤_, _<_}
+use Prim.Native.Nat.{ℕ, zero, suc, _-_, _≤_, _<_}
 use native.Mathlib.Omega.{arith}
-use borrow.Author.Tests.{eq-eqb, ne-eqb, le-leb}
+use borrow.Author.Tests.{eq-eqb, ne-eqb, eqb-true, le-leb}
 use lib.Dec.{eqb}
-use lib.ListN.{length, take, drop, getD, replicate, length-replicate, length-take, length-drop}
+use lib.ListN.{length, getD, replicate, length-replicate, take, drop, length-take, length-drop}
 use Rattle.words.specs.Words.{cleared}
 use Rattle.words.proofs.Runs.{to-end}
 use Rattle.term.specs.Parts.{part}
 use Rattle.term.proofs.Scan.{part-length}
-use Rattle.term.specs.Terms.{maxNames, maxIndex}
+use Rattle.term.specs.Terms.{maxNames}
 use Rattle.declarations.specs.declared.constructor.Put as P
 use Rattle.declarations.specs.declared.constructor.Put.the-variants as Puts
 use Rattle.declarations.specs.Declarations.{size, isIndex, isVariable}
@@ -21,22 +21,23 @@ use Rattle.declarations.specs.Put.{started, startAnswer, room, answer, leaves, 
 use Rattle.declarations.proofs.Entries.{index-tests}
 use Rattle.declarations.proofs.Put.{variable-few}
 use Rattle.text.specs.Pieces.{Text}
-use Rattle.format.specs.Files.{Variable, File, Basis, Var}
-use Rattle.format.specs.Reading.{Line, wrong, good, full, takeTypes, takeBasis, takeVariable, andBasis, andVariable, variableOf, variableIn, wordsBehind, kindOf}
+use Rattle.text.specs.Tokens.{tokensIn}
+use Rattle.format.specs.Files.{File, WellDeclared}
+use Rattle.format.specs.Reading.{Line, wrong, good, full, takeTypes, takeBasis, takeVariable, takeValue, variableOf, variableIn, wordsBehind, kindOfLetter}
 use Rattle.format.specs.Kept.{putBases, putVariables, declarationsOf}
-use Rattle.format.specs.Files.{Sound}
 use Rattle.format.proofs.Declared.{declared, room-bases, room-variables, bases-more, variables-more}
 use Rattle.reader.specs.declared.faults.Fault.{Fault}
-use Rattle.reader.specs.Code.Lines.{fault, faultOf, Put, putFault, kindNumber, PutWords}
+use Rattle.reader.specs.Code.Keys.{keyAt}
+use Rattle.reader.specs.Code.Lines.{fault, Answers, ordered, Put, putCode, kindNumber, kindIn, wordsIn, isNamed, namePut, andName, PutWords}
 
 -- ---- a line that is wrong, and one that is not
 pub wrong-line : {made : File → List ℕ} {n c : ℕ} {l : Line} {r : Fault} {out : List ℕ} → r ≡ fault c n → l ≡ wrong c → Put made n l r out
-unfolding faultOf
-wrong-line e f = record { answer = e ∙ rw f; words = λ g h. absurd (let z : _≡_ {A = ℕ} 0 1 = cc in omega arith) }
+unfolding Answers
+wrong-line e f = record { answer = rw f e; words = λ g h. absurd (let z : _≡_ {A = ℕ} 0 1 = cc in omega arith) }
 
-pub good-line : {made : File → List ℕ} {n : ℕ} {l : Line} {r : Fault} (g : File) {out : List ℕ} → r ≡ fault 0 0 → l ≡ good g → out ≡ made g → Put made n l r out
-unfolding faultOf
-good-line g e f w = record { answer = e ∙ rw f; words = λ h k. let z : g ≡ h = cc in w ∙ rw z }
+pub good-line : {made : File → List ℕ} {n : ℕ} {l : Line} {r : Fault} (g : File) {out : List ℕ} → r .code ≡ 0 → l ≡ good g → out ≡ made g → Put made n l r out
+unfolding Answers
+good-line g e f w = record { answer = rw f e; words = λ h k. let z : g ≡ h = cc in w ∙ rw z }
 
 -- ---- types
 pub no-types : (f : File) {o : Option ℕ} → o ≡ none → takeTypes f o ≡ wrong 5
@@ -58,135 +59,9 @@ types-line f ds {line} {n} {r} no-bases no-variables l s h a o b =
     let g : File = record { types = n; bases = f .bases; variables = f .variables; left = f .left; right = f .right; steps = f .steps } in
     let d : r ≡ Puts.Done = a ∙ rw (eq-eqb _ _ l, le-leb _ _ h) in
     let m : length ds ≡ length zeros = l ∙ sym (length-replicate {A = ℕ} size 0) in
-    good-line g b (rw s) (o ∙ rw (d, no-bases, no-variables) (started-alike ds zeros n m))
+    good-line g (ap (λ x. x .code) b) (rw s) (o ∙ rw (d, no-bases, no-variables) (started-alike ds zeros n m))
 
--- ---- bases
-module _ (f : File) (sound : Sound f) {ds : List ℕ} (e : ds ≡ declarationsOf f) where
-  counted-bases : getD ds 1 0 ≡ length (f .bases)
-  counted-bases = rw e (declared f sound .bases)
-
-  counted-variables : getD ds 2 0 ≡ length (f .variables)
-  counted-variables = rw e (declared f sound .variables)
-
-  counted-types : getD ds 0 0 ≡ f .types
-  counted-types = rw e (declared f sound .types)
-
-  pub basis-full : (l : Line) → getD ds 1 0 ≡ 32 → cond (full Basis f) (wrong 6) l ≡ wrong 6
-  unfolding full
-  basis-full l h = rw (eq-eqb (length (f .bases)) maxNames (sym counted-bases ∙ h))
-
-  pub basis-next : (l : Line) → getD ds 1 0 ≢ 32 → cond (full Basis f) (wrong 6) l ≡ l
-  unfolding full
-  basis-next l h = rw (ne-eqb (length (f .bases)) maxNames (λ z. h (counted-bases ∙ z)))
-
-  pub variable-full : (l : Line) → getD ds 2 0 ≡ 32 → cond (full Var f) (wrong 6) l ≡ wrong 6
-  unfolding full
-  variable-full l h = rw (eq-eqb (length (f .variables)) maxNames (sym counted-variables ∙ h))
-
-  pub variable-next : (l : Line) → getD ds 2 0 ≢ 32 → cond (full Var f) (wrong 6) l ≡ l
-  unfolding full
-  variable-next l h = rw (ne-eqb (length (f .variables)) maxNames (λ z. h (counted-variables ∙ z)))
-
-  basis-by : (b : List ℕ) {line : ℕ} {r : P.Put} {out : List ℕ} {a : Fault} (t : Bool) → isIndex (f .types) b ≡ t → f .variables ≡ []
-      → r ≡ cond t Puts.Done Puts.Bad → out ≡ leaves r (basisPut ds b) ds → a ≡ putFault r line → Put declarationsOf line (takeBasis f (some b)) a out
-  unfolding takeBasis leaves putFault declarationsOf putVariables
-  basis-by b true t v d o a =
-      good-line (andBasis f b) (a ∙ rw d) (rw t) (o ∙ rw (d, e, v, bases-more))
-  basis-by b false t v d o a = wrong-line {c = 7} (a ∙ rw d) (rw t)
-
-  pub basis-line : {b : List ℕ} {line : ℕ} {o : Option (List ℕ)} {ws : List ℕ} {r : P.Put} {out : List ℕ} {a : Fault} → o ≡ some b → ws ≡ b → f .variables ≡ [] → getD ds 1 0 ≢ 32
-      → r ≡ answer (room ds 1) (isIndex (getD ds 0 0) ws) → out ≡ leaves r (basisPut ds ws) ds → a ≡ putFault r line → Put declarationsOf line (takeBasis f o) a out
-  unfolding answer
-  basis-line {b} {line} {o} {ws} {r} {out} p q v h d k a =
-      let few = sound .few-bases in
-      let c = counted-bases in
-      let m : length (f .bases) ≢ maxNames = λ z. h (counted-bases ∙ z) in
-      let done : room ds 1 ≡ Puts.Done = rw e (room-bases f sound (omega arith)) in
-      rw p (basis-by b (isIndex (f .types) b) refl v (d ∙ rw (done, counted-types, q)) (k ∙ rw q) a)
-
-pub no-basis : (f : File) {o : Option (List ℕ)} → o ≡ none → takeBasis f o ≡ wrong 5
-unfolding takeBasis
-no-basis f e = rw e
-
-pub long-basis : (f : File) {o : Option (List ℕ)} {b : List ℕ} → o ≡ some b → maxIndex < length b → takeBasis f o ≡ wrong 7
-unfolding takeBasis
-long-basis f {o} {b} e h = rw (e, too-long (isIndex (f .types) b) refl)
-  where
-    too-long : (t : Bool) → isIndex (f .types) b ≡ t → isIndex (f .types) b ≡ false
-    too-long true t = absurd (let p = index-tests (f .types) b t in omega arith)
-    too-long false t = t
-
--- ---- variables
-pub no-variable : (f : File) {o : Option Variable} → o ≡ none → takeVariable f o ≡ wrong 5
-unfolding takeVariable
-no-variable f e = rw e
-
-abbrev splitAt : ℕ → List ℕ → ℕ
-splitAt kind ws = cond (eqb kind 3) (length (part ws 0)) (length ws)
-
-abbrev variableWith : ℕ → List ℕ → Variable
-variableWith kind ws = record { kind = kind; first = take (splitAt kind ws) ws; second = drop (splitAt kind ws) ws }
-
-pub first-within : (kind : ℕ) (ws : List ℕ) {n : ℕ} → n ≡ splitAt kind ws → n ≤ length ws
-first-within kind ws {n} e = go (eqb kind 3) (part-length ws 0) e
-  where
-    go : (t : Bool) → length (part ws 0) ≤ length ws - 0 → n ≡ cond t (length (part ws 0)) (length ws) → n ≤ length ws
-    go true h e = omega arith
-    go false h e = omega arith
-
-pub a-variable : {k : Option ℕ} {o : Option (List ℕ)} (kind : ℕ) (ws : List ℕ) → k ≡ some kind → o ≡ some ws → variableOf k o ≡ some (variableWith kind ws)
-unfolding variableOf
-a-variable kind ws e f = rw (e, f)
-
-pub half-variable : (k : Option ℕ) {o : Option (List ℕ)} → o ≡ none → variableOf k o ≡ none
-unfolding variableOf
-half-variable none e = refl
-half-variable (some k) e = rw e
-
-pub kindless : {k : Option ℕ} (o : Option (List ℕ)) → k ≡ none → variableOf k o ≡ none
-unfolding variableOf
-kindless o e = rw e
-
--- two indices have no more than 126 words
-pub long-variable : (f : File) {o : Option Variable} (kind : ℕ) (ws : List ℕ) → o ≡ some (variableWith kind ws) → 126 < length ws → takeVariable f o ≡ wrong 7
-unfolding takeVariable
-long-variable f {o} kind ws e h = rw (e, too-long (isVariable (f .types) kind (take (splitAt kind ws) ws) (drop (splitAt kind ws) ws)) refl)
-  where
-    too-long : (t : Bool) → isVariable (f .types) kind (take (splitAt kind ws) ws) (drop (splitAt kind ws) ws) ≡ t
-        → isVariable (f .types) kind (take (splitAt kind ws) ws) (drop (splitAt kind ws) ws) ≡ false
-    too-long true t =
-        absurd (let p = variable-few (f .types) kind (take (splitAt kind ws) ws) (drop (splitAt kind ws) ws) t in
-        let a = length-take (splitAt kind ws) ws in
-        let b = length-drop (splitAt kind ws) ws in omega arith)
-    too-long false t = t
-
-module _ (f : File) (sound : Sound f) {ds : List ℕ} (e : ds ≡ declarationsOf f) where
-  variable-by : (v : Variable) {line : ℕ} {r : P.Put} {out : List ℕ} {a : Fault} (t : Bool) → isVariable (f .types) (v .kind) (v .first) (v .second) ≡ t
-      → r ≡ cond t Puts.Done Puts.Bad → out ≡ leaves r (variablePut ds (v .kind) (v .first) (v .second)) ds → a ≡ putFault r line
-      → Put declarationsOf line (takeVariable f (some v)) a out
-  unfolding takeVariable leaves putFault declarationsOf
-  variable-by v true t d o a = good-line (andVariable f v) (a ∙ rw d) (rw t) (o ∙ rw (d, e, variables-more))
-  variable-by v false t d o a = wrong-line {c = 7} (a ∙ rw d) (rw t)
-
-  pub variable-line : {kind : ℕ} {ws vs : List ℕ} {line : ℕ} {o : Option Variable} {r : P.Put} {out : List ℕ} {a : Fault} → o ≡ some (variableWith kind ws) → vs ≡ ws → getD ds 2 0 ≢ 32
-      → PutWords ds kind vs r out → a ≡ putFault r line → Put declarationsOf line (takeVariable f o) a out
-  unfolding answer
-  variable-line {kind} {ws} {vs} {line} {o} {r} {out} p q h d a =
-      let few = sound .few-variables in
-      let m : length (f .variables) ≢ maxNames = λ z. h (counted-variables f sound e ∙ z) in
-      let done : room ds 2 ≡ Puts.Done = rw e (room-variables f sound (omega arith)) in
-      let s : d .split ≡ splitAt kind ws = d .where-split ∙ rw q in
-      rw p
-      (variable-by (variableWith kind ws) (isVariable (f .types) kind (take (splitAt kind ws) ws) (drop (splitAt kind ws) ws)) refl
-      (d .answer ∙ rw (done, counted-types f sound e, q, s))
-      (d .words ∙ rw (q, s)) a)
-
--- ---- kinds by their number
-pub kind-known : (o : Option ℕ) {k : ℕ} → k ≡ kindNumber o → k ≤ 3 → o ≡ some k
-unfolding kindNumber
-kind-known none e h = absurd (omega arith)
-kind-known (some n) e h = rw e
-
+-- ---- kinds
 four-kinds : (p q r s : Bool) {n : ℕ} → cond p (some 0) (cond q (some 1) (cond r (some 2) (cond s (some 3) none))) ≡ some n → n ≤ 3
 four-kinds true q r s {n} e = let z : 0 ≡ n = cc in omega arith
 four-kinds false true r s {n} e = let z : 1 ≡ n = cc in omega arith
@@ -194,38 +69,148 @@ four-kinds false false true s {n} e = let z : 2 ≡ n = cc in omega arith
 four-kinds false false false true {n} e = let z : 3 ≡ n = cc in omega arith
 four-kinds false false false false e = absurd (let z : _≡_ {A = ℕ} 0 1 = cc in omega arith)
 
-kind-few : (b n : ℕ) → kindOf b ≡ some n → n ≤ 3
-unfolding kindOf
+kind-few : (b n : ℕ) → kindOfLetter b ≡ some n → n ≤ 3
+unfolding kindOfLetter
 kind-few b n e = four-kinds (eqb b 83) (eqb b 75) (eqb b 66) (eqb b 79) e
 
-pub kind-none : (b : ℕ) {k : ℕ} → k ≡ kindNumber (kindOf b) → 3 < k → kindOf b ≡ none
+-- no letter is a basis's
+no-basis : (t : Bool) (b : ℕ) (o : Option ℕ) → kindOfLetter b ≡ o → eqb (cond t 4 (kindNumber o)) 5 ≡ false
 unfolding kindNumber
-kind-none b {k} e h = go (kindOf b) refl
+no-basis true b o e = refl
+no-basis false b none e = refl
+no-basis false b (some n) e = let h = kind-few b n e in ne-eqb n 5 λ z. omega arith
+
+-- a basis has the kind 5, and is counted by word 1; a variable by word 2
+kind-place : (k : ℕ) (s : Text) → 1 ≤ k → k ≤ 2 → cond (eqb (kindIn k s) 5) 1 2 ≡ k
+unfolding kindIn
+kind-place zero s h l = absurd (omega arith)
+kind-place (suc zero) s h l = refl
+kind-place (suc (suc zero)) s h l = rw (no-basis (eqb (length s) 0) (getD s 0 0) (kindOfLetter (getD s 0 0)) refl)
+kind-place (suc (suc (suc k))) s h l = absurd (omega arith)
+
+-- ---- a basis or a variable, by its kind and its words
+takeName : File → ℕ → Option (List ℕ) → Line
+takeName f kind none = wrong 5
+takeName f kind (some ws) = cond (isNamed (f .types) kind ws) (good (andName f kind ws)) (wrong 7)
+
+basis-name : (f : File) (o : Option (List ℕ)) → takeBasis f o ≡ takeName f 5 o
+unfolding takeBasis takeName isNamed andName
+basis-name f none = refl
+basis-name f (some b) = refl
+
+variable-name : (f : File) (kind : ℕ) (o : Option (List ℕ)) → kind ≤ 3 → takeVariable f (variableOf (some kind) o) ≡ takeName f kind o
+unfolding takeVariable variableOf takeName isNamed andName
+variable-name f kind none h = refl
+variable-name f kind (some ws) h = rw (ne-eqb kind 5 λ z. omega arith)
+
+letter-name : (f : File) (b : ℕ) (s : Text) (o : Option ℕ) → kindOfLetter b ≡ o
+    → takeVariable f (variableOf o (wordsBehind s)) ≡ cond (eqb (kindNumber o) 4) (wrong 5) (takeName f (kindNumber o) (wordsIn (kindNumber o) (b ∷ s)))
+unfolding kindNumber wordsIn takeVariable variableOf
+letter-name f b s none e = refl
+letter-name f b s (some n) e =
+    let h = kind-few b n e in
+    variable-name f n (wordsBehind s) h ∙ rw (ne-eqb n 4 (λ z. omega arith), ne-eqb n 5 (λ z. omega arith))
+
+value-name : (f : File) (k : ℕ) (s : Text) → 1 ≤ k → k ≤ 2
+    → takeValue (keyAt k) f s ≡ cond (eqb (kindIn k s) 4) (wrong 5) (takeName f (kindIn k s) (wordsIn (kindIn k s) s))
+unfolding takeValue kindIn wordsIn variableIn takeVariable
+value-name f zero s h l = absurd (omega arith)
+value-name f (suc zero) s h l = basis-name f (tokensIn s)
+value-name f (suc (suc zero)) [] h l = refl
+value-name f (suc (suc zero)) (b ∷ s) h l = letter-name f b s (kindOfLetter b) refl ∙ rw (ne-eqb (length (b ∷ s)) 0 λ z. omega arith)
+value-name f (suc (suc (suc k))) s h l = absurd (omega arith)
+
+named-few : (t : Bool) (N kind : ℕ) (ws : List ℕ) → eqb kind 5 ≡ t → isNamed N kind ws ≡ true → length ws ≤ 126
+unfolding isNamed
+named-few true N kind ws e n = let p = index-tests N ws (rw e at n) in omega arith
+named-few false N kind ws e n =
+    let at = cond (eqb kind 3) (length (part ws 0)) (length ws) in
+    let p = variable-few N kind (take at ws) (drop at ws) (rw e at n) in
+    omega (arith, length-take at ws, length-drop at ws)
+
+too-long : (N kind : ℕ) (ws : List ℕ) → 126 < length ws → isNamed N kind ws ≡ false
+too-long N kind ws h = by (isNamed N kind ws) refl
   where
-    go : (o : Option ℕ) → kindOf b ≡ o → o ≡ none
-    go none g = refl
-    go (some n) g = absurd (let f = kind-few b n g in let z : k ≡ n = e ∙ rw g in omega arith)
+    by : (t : Bool) → isNamed N kind ws ≡ t → isNamed N kind ws ≡ false
+    by true t = absurd (let p = named-few (eqb kind 5) N kind ws refl t in omega arith)
+    by false t = t
 
--- ---- a variable's value: its letter, and what stands behind
-pub letterless : (s : Text) → length s ≡ 0 → variableIn s ≡ none
-unfolding variableIn
-letterless [] h = refl
-letterless (b ∷ s) h = absurd (omega arith)
+pub first-within : (kind : ℕ) (ws : List ℕ) {n : ℕ} → n ≡ cond (eqb kind 3) (length (part ws 0)) (length ws) → n ≤ length ws
+first-within kind ws {n} e = go (eqb kind 3) (part-length ws 0) e
+  where
+    go : (t : Bool) → length (part ws 0) ≤ length ws - 0 → n ≡ cond t (length (part ws 0)) (length ws) → n ≤ length ws
+    go true h e = omega arith
+    go false h e = omega arith
 
-by-letter : (s : Text) → length s ≢ 0 → variableIn s ≡ variableOf (kindOf (getD s 0 0)) (wordsBehind (drop 1 s))
-unfolding variableIn
-by-letter [] h = absurd (h refl)
-by-letter (b ∷ s) h = refl
+-- what is put
+pub basis-words-put : {ds ws out : List ℕ} {kind : ℕ} {r : P.Put} → kind ≡ 5 → r ≡ answer (room ds 1) (isIndex (getD ds 0 0) ws) → out ≡ leaves r (basisPut ds ws) ds → PutWords ds kind ws r out
+unfolding isNamed namePut
+basis-words-put h a o = record { answer = a ∙ rw h; words = o ∙ rw h }
 
-module _ (s : Text) (h : length s ≢ 0) where
-  lettered : variableIn s ≡ variableOf (kindOf (getD s 0 0)) (wordsBehind (take (length s - 1) (drop 1 s)))
-  lettered = rw (to-end s 1) (by-letter s h)
+pub variable-words-put : {ds out : List ℕ} (ws : List ℕ) {kind n : ℕ} {r : P.Put} → kind ≢ 5 → n ≡ cond (eqb kind 3) (length (part ws 0)) (length ws)
+    → r ≡ answer (room ds 2) (isVariable (getD ds 0 0) kind (take n ws) (take (length ws - n) (drop n ws))) → out ≡ leaves r (variablePut ds kind (take n ws) (take (length ws - n) (drop n ws))) ds
+    → PutWords ds kind ws r out
+unfolding isNamed namePut
+variable-words-put ws {kind} {n} h e a o =
+    let t = to-end ws n in
+    let x = rw (t, e) at a in
+    let y = rw (t, e) at o in
+    record { answer = x ∙ rw (ne-eqb kind 5 h); words = y ∙ rw (ne-eqb kind 5 h) }
 
-  pub letter-none : kindOf (getD s 0 0) ≡ none → variableIn s ≡ none
-  letter-none e = lettered ∙ kindless _ e
+-- ---- the line of a name, where the declarations are those of the file
+counted : (f : File) → WellDeclared f → (k : ℕ) → 1 ≤ k → k ≤ 2
+    → (full (keyAt k) f ≡ eqb (getD (declarationsOf f) k 0) 32) × (getD (declarationsOf f) k 0 ≢ 32 → room (declarationsOf f) k ≡ Puts.Done)
+unfolding full
+counted f sound zero h l = absurd (omega arith)
+counted f sound (suc zero) h l = let c = declared f sound .bases in let few = sound .few-bases in (rw c, λ z. room-bases f sound (omega arith))
+counted f sound (suc (suc zero)) h l = let c = declared f sound .variables in let few = sound .few-variables in (rw c, λ z. room-variables f sound (omega arith))
+counted f sound (suc (suc (suc k))) h l = absurd (omega arith)
 
-  pub letter-words : wordsBehind (take (length s - 1) (drop 1 s)) ≡ none → variableIn s ≡ none
-  letter-words e = lettered ∙ half-variable _ e
+module _ (f : File) {ds : List ℕ} (e : ds ≡ declarationsOf f) where
+  name-put : (t : Bool) (kind : ℕ) (ws : List ℕ) → eqb kind 5 ≡ t → (kind ≡ 5 → f .variables ≡ []) → namePut ds kind ws ≡ declarationsOf (andName f kind ws)
+  unfolding namePut andName declarationsOf putVariables
+  name-put true kind ws t v = rw (t, e, v (eqb-true kind 5 t), bases-more)
+  name-put false kind ws t v = rw (t, e, variables-more)
 
-  pub letter-variable : {kind : ℕ} {ws : List ℕ} → kindOf (getD s 0 0) ≡ some kind → wordsBehind (take (length s - 1) (drop 1 s)) ≡ some ws → variableIn s ≡ some (variableWith kind ws)
-  letter-variable {kind} {ws} e f = lettered ∙ a-variable kind ws e f
+  name-by : (t : Bool) (kind : ℕ) (ws : List ℕ) {line : ℕ} {r : P.Put} {out : List ℕ} {a : Fault} → isNamed (f .types) kind ws ≡ t → (kind ≡ 5 → f .variables ≡ [])
+      → r ≡ cond t Puts.Done Puts.Bad → out ≡ leaves r (namePut ds kind ws) ds → a ≡ fault (putCode r) line → Put declarationsOf line (takeName f kind (some ws)) a out
+  unfolding takeName leaves
+  name-by true kind ws t v d o a = good-line (andName f kind ws) (ap (λ x. x .code) a ∙ rw d) (rw t) (o ∙ rw d (name-put (eqb kind 5) kind ws refl v))
+  name-by false kind ws t v d o a = wrong-line {c = 7} (a ∙ rw d) (rw t)
+
+module _ (f : File) (sound : WellDeclared f) {ds : List ℕ} (e : ds ≡ declarationsOf f) {k : ℕ} (low : 1 ≤ k) (high : k ≤ 2) (s : Text) where
+  full-is : full (keyAt k) f ≡ eqb (getD ds k 0) 32
+  full-is = rw e (counted f sound k low high .0)
+
+  pub name-full : getD ds k 0 ≡ 32 → ordered (keyAt k) f s ≡ wrong 6
+  name-full z = rw (full-is, z)
+
+  module _ (next : getD ds k 0 ≢ 32) {kind : ℕ} (i : kind ≡ kindIn k s) where
+    by-kind : ordered (keyAt k) f s ≡ cond (eqb kind 4) (wrong 5) (takeName f kind (wordsIn kind s))
+    by-kind = rw (full-is, ne-eqb _ 32 next, i) (value-name f k s low high)
+
+    pub letterless : kind ≡ 4 → ordered (keyAt k) f s ≡ wrong 5
+    letterless z = by-kind ∙ rw z
+
+    module _ (known : kind ≢ 4) where
+      named : ordered (keyAt k) f s ≡ takeName f kind (wordsIn kind s)
+      named = by-kind ∙ rw (ne-eqb kind 4 known)
+
+      pub unworded : wordsIn kind s ≡ none → ordered (keyAt k) f s ≡ wrong 5
+      unfolding takeName
+      unworded z = named ∙ rw z
+
+      module _ {ws : List ℕ} (w : wordsIn kind s ≡ some ws) where
+        pub long-name : 126 < length ws → ordered (keyAt k) f s ≡ wrong 7
+        unfolding takeName
+        long-name h = named ∙ rw (w, too-long (f .types) kind ws h)
+
+        pub name-line : {vs : List ℕ} {line : ℕ} {r : P.Put} {out : List ℕ} {a : Fault} → vs ≡ ws → (k ≡ 1 → f .variables ≡ []) → PutWords ds kind vs r out → {c : ℕ} → c ≡ putCode r
+            → a ≡ fault c line → Put declarationsOf line (ordered (keyAt k) f s) a out
+        unfolding answer
+        name-line {line = line} q v d m a =
+            let place : cond (eqb kind 5) 1 2 ≡ k = rw i (kind-place k s low high) in
+            let done : room ds k ≡ Puts.Done = rw e (counted f sound k low high .1 (rw e at next)) in
+            let types : getD ds 0 0 ≡ f .types = rw e (declared f sound .types) in
+            rw (named, w)
+            (name-by f e (isNamed (f .types) kind ws) kind ws refl (λ z. v (sym (rw z at place))) (d .answer ∙ rw (place, done, types, q)) (d .words ∙ rw q) (a ∙ ap (λ x. fault x line) m))

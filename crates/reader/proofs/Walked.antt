@@ -5,7 +5,8 @@ use mathlib.Core.Bool.{Bool, true, false, not, and-eq-true-iff}
 use mathlib.Core.List.{List, [], _∷_, _++_}
 use Prim.Native.Nat.{ℕ, _+_, _-_, _≤_, _<_}
 use native.Mathlib.Omega.{arith}
-use borrow.Author.Tests.{eq-eqb, ne-eqb, lt-leb, leb-true, leb-false, not-true, not-false}
+use borrow.Author.Tests.{eqb-true, lt-leb, leb-true, leb-false, not-true, not-false}
+use lib.Dec.{eqb}
 use lib.ListN.{length, take, drop, replicate, length-append, length-drop, drop-of-length-le}
 use lib.Seq.{take-at, drop-drop, drop-append-add}
 use Rattle.words.specs.Listed.{lacks}
@@ -17,7 +18,7 @@ use Rattle.cursor.specs.declared.Span.{Span}
 use Rattle.cursor.specs.Reading.{atEnd, spanAt}
 use Rattle.cursor.proofs.Spans.{span-end, span-next, span-last}
 use Rattle.format.specs.Files.{File}
-use Rattle.format.specs.Reading.{Line, wrong, good, lineOf, Reading, onLine, keyOf, stageAfter, readFrom, nothing}
+use Rattle.format.specs.Reading.{Line, wrong, good, lineTaken, Reading, onLine, keyOf, stageAfter, readFrom, nothing}
 use Rattle.format.specs.Reading as R
 use Rattle.format.specs.Kept.{stepsSize, putSteps, stepsOf}
 use Rattle.format.proofs.Codes.{Marked, marked, line}
@@ -26,10 +27,10 @@ use Rattle.lent.specs.Lent.{maxSteps}
 use Rattle.reader.specs.declared.files.Read.{Read}
 use Rattle.reader.specs.declared.walking.State.{State}
 use Rattle.reader.specs.declared.walking.Taken.{Taken}
-use Rattle.reader.specs.Answers.{refusal, answerOf}
-use Rattle.reader.specs.Code.Lines.{fault, faultOf}
-use Rattle.reader.specs.Code.Holding.{Holding, After, Sizes, Found}
-use Rattle.reader.proofs.Held.{few-steps-at}
+use Rattle.reader.specs.Answers.{readRefusal, answerOf}
+use Rattle.reader.specs.Code.Lines.{Answers}
+use Rattle.reader.specs.Code.Holding.{Holding, After, Lined, endedIn, Sizes, Found}
+use Rattle.reader.proofs.Held.{stage-few, few-steps-at}
 
 -- from the offset `at` on, in line `line`, with what the slices hold
 pub record Rest (bytes : Text) (at line : ℕ) (s : State) (ds ls rs ms : List ℕ) : Type 0 where
@@ -47,11 +48,6 @@ pub record Standing (bytes : Text) (at line : ℕ) (over : Bool) (s : State) (ds
   pub over-is : over ≡ atEnd bytes at
   pub rest : Rest bytes at line s ds ls rs ms
 
--- what is told of the taking of a line
-abbrev pub Lined : Text → ℕ → State → List ℕ → List ℕ → List ℕ → List ℕ → Taken → List ℕ → List ℕ → List ℕ → List ℕ → Type 0
-Lined text line s ds ls rs ms r es ks qs ns =
-    (length es ≡ length ds) × (length ks ≡ length ls) × (length qs ≡ length rs) × (length ns ≡ length ms) × ((f : File) → Holding s f ds ls rs ms → After line (keyOf text) (lineOf (s .stage) f text) r es ks qs ns)
-
 abbrev pub beginning : State
 beginning = record { stage = 0; left = 0; right = 0; steps = 0 }
 
@@ -63,10 +59,7 @@ rest-start {bytes} b m = record {
   holding = record {
     lines = [];
     reached = start;
-    declarations = λ n. absurd (n refl);
-    left = λ h. absurd (omega arith);
-    right = λ h. absurd (omega arith);
-    steps = (m, refl);
+    kept = record { declarations = λ n. absurd (n refl); left = λ h. absurd (omega arith); right = λ h. absurd (omega arith); steps = (m, refl) };
   };
   text = sym (ended-lines 1 false bytes b (omega arith));
   lack = lines-lack lineFeed bytes;
@@ -74,6 +67,9 @@ rest-start {bytes} b m = record {
 }
 
 -- ---- the next line
+abbrev pub Within : ℕ → Span → Text → Type 0
+Within at r bytes = (at ≤ r .end) × (r .end < r .next) × (r .next ≤ length bytes)
+
 pub record Next (bytes : Text) (at : ℕ) (r : Span) (lines : List Text) : Type 0 where
   pub line : Text
   pub others : List Text
@@ -81,9 +77,10 @@ pub record Next (bytes : Text) (at : ℕ) (r : Span) (lines : List Text) : Type 
   pub is : take (r .end - at) (drop at bytes) ≡ line
   pub rest : drop (r .next) bytes ≡ ended others
   pub lack : allLack lineFeed others ≡ true
-  pub within : (at ≤ r .end) × (r .end < r .next) × (r .next ≤ length bytes)
+  pub within : Within at r bytes
 
-next-line : (bytes : Text) (at : ℕ) {r : Span} (lines : List Text) → drop at bytes ≡ ended lines → allLack lineFeed lines ≡ true → at < length bytes → r ≡ spanAt bytes at lineFeed → Next bytes at r lines
+next-line : (bytes : Text) (at : ℕ) {r : Span} (lines : List Text) → drop at bytes ≡ ended lines → allLack lineFeed lines ≡ true → at < length bytes
+    → r ≡ spanAt bytes at lineFeed → Next bytes at r lines
 unfolding ended allLack pieceEnd
 next-line bytes at [] e l h p = absurd (let d = length-drop at bytes in let z : length (drop at bytes) ≡ 0 = ap length e in omega arith)
 next-line bytes at {r} (x ∷ xs) e l h p =
@@ -106,21 +103,21 @@ next-line bytes at {r} (x ∷ xs) e l h p =
     }
 
 -- ---- a line's fault, and no fault
-module _ (n s : ℕ) (f : File) (l : Text) (ls : List Text) (r : Taken) (answer : r .fault ≡ faultOf n (lineOf s f l)) where
-  line-fault : r .fault .code ≢ 0 → refusal (r .fault .code) (r .fault .at) ≡ answerOf (readFrom n s f (l ∷ ls))
-  unfolding readFrom onLine faultOf answerOf
-  line-fault h = go (lineOf s f l) answer
+module _ (n s : ℕ) (f : File) (l : Text) (ls : List Text) (r : Taken) (answer : Answers n (lineTaken s f l) (r .fault)) where
+  line-fault : r .fault .code ≢ 0 → readRefusal (r .fault .code) (r .fault .at) ≡ answerOf (readFrom n s f (l ∷ ls))
+  unfolding readFrom onLine Answers answerOf
+  line-fault h = go (lineTaken s f l) answer
     where
-      go : (x : Line) → r .fault ≡ faultOf n x → refusal (r .fault .code) (r .fault .at) ≡ answerOf (onLine x (λ c. R.fault c n) (λ g. readFrom (n + 1) (stageAfter (keyOf l)) g ls))
+      go : (x : Line) → Answers n x (r .fault) → readRefusal (r .fault .code) (r .fault .at) ≡ answerOf (onLine x (λ c. R.fault c n) (λ g. readFrom (n + 1) (stageAfter (keyOf l)) g ls))
       go (wrong c) e = rw e
-      go (good g) e = absurd (h (ap (λ x. x .code) e))
+      go (good g) e = absurd (h e)
 
-  line-good : r .fault .code ≡ 0 → (g : File) × (lineOf s f l ≡ good g) × (readFrom n s f (l ∷ ls) ≡ readFrom (n + 1) (stageAfter (keyOf l)) g ls)
-  unfolding readFrom onLine faultOf
-  line-good h = go (lineOf s f l) refl answer (line f s l)
+  line-good : r .fault .code ≡ 0 → (g : File) × (lineTaken s f l ≡ good g) × (readFrom n s f (l ∷ ls) ≡ readFrom (n + 1) (stageAfter (keyOf l)) g ls)
+  unfolding readFrom onLine Answers
+  line-good h = go (lineTaken s f l) refl answer (line f s l)
     where
-      go : (x : Line) → lineOf s f l ≡ x → r .fault ≡ faultOf n x → Marked x
-          → (g : File) × (lineOf s f l ≡ good g) × (onLine (lineOf s f l) (λ c. R.fault c n) (λ g. readFrom (n + 1) (stageAfter (keyOf l)) g ls) ≡ readFrom (n + 1) (stageAfter (keyOf l)) g ls)
+      go : (x : Line) → lineTaken s f l ≡ x → Answers n x (r .fault) → Marked x
+          → (g : File) × (lineTaken s f l ≡ good g) × (onLine (lineTaken s f l) (λ c. R.fault c n) (λ g. readFrom (n + 1) (stageAfter (keyOf l)) g ls) ≡ readFrom (n + 1) (stageAfter (keyOf l)) g ls)
       go (wrong c) e a (marked d k) = absurd (let z : r .fault .code ≡ c = ap (λ x. x .code) a in omega arith)
       go (good g) e a k = (g, e, rw e)
 
@@ -133,16 +130,20 @@ code-of : {o : Reading} {f : File} → o ≡ R.read f → answerOf o .code ≡ 0
 unfolding answerOf
 code-of e = rw e
 
+-- a fault leaves nothing to be said of the words
+pub found-fault : {o : Reading} {r : Read} {c n : ℕ} {ds ls rs ms : List ℕ} → r ≡ readRefusal c n → readRefusal c n ≡ answerOf o → c ≢ 0 → Sizes ds ls rs ms → Found o r ds ls rs ms
+found-fault {o} {r} {c} e a n z = record { answer = e ∙ a; sizes = z; words = λ f k. absurd (n (ap (λ x. x .code) a ∙ code-of k)) }
+
 -- ---- from line to line
 module _ {bytes : Text} {at line : ℕ} {s : State} {ds ls rs ms : List ℕ} (h : Rest bytes at line s ds ls rs ms) where
-  pub few-steps : s .steps ≤ maxSteps
-  few-steps = let e = h .holding .steps .1 in let k = few-steps-at (h .holding .reached) in omega arith
+  pub in-bounds : (s .steps ≤ maxSteps) × (s .stage ≤ 5)
+  in-bounds = let e = h .holding .kept .steps .1 in let k = few-steps-at (h .holding .reached) in (omega arith, stage-few (h .holding .reached))
 
   next : {r : Span} → at < length bytes → r ≡ spanAt bytes at lineFeed → Next bytes at r (h .lines)
   next g e = next-line bytes at (h .lines) (h .text) (h .lack) g e
 
-  module _ {p : Span} (x : Next bytes at p (h .lines)) {r : Taken} {es ks qs ns : List ℕ} (a : After line (keyOf (x .line)) (lineOf (s .stage) (h .file) (x .line)) r es ks qs ns) where
-    stops : r .fault .code ≢ 0 → refusal (r .fault .code) (r .fault .at) ≡ answerOf (readFrom 1 0 nothing (linesOf bytes))
+  module _ {p : Span} (x : Next bytes at p (h .lines)) {r : Taken} {es ks qs ns : List ℕ} (a : After line (keyOf (x .line)) (lineTaken (s .stage) (h .file) (x .line)) r es ks qs ns) where
+    stops : r .fault .code ≢ 0 → readRefusal (r .fault .code) (r .fault .at) ≡ answerOf (readFrom 1 0 nothing (linesOf bytes))
     stops c = line-fault line (s .stage) (h .file) (x .line) (x .others) r (a .answer) c ∙ rw (h .same, x .are)
 
     goes-on : r .fault .code ≡ 0 → Rest bytes (p .next) (line + 1) (r .state) es ks qs ns
@@ -158,33 +159,27 @@ module _ {bytes : Text} {at line : ℕ} {s : State} {ds ls rs ms : List ℕ} (h 
         }
 
   -- ---- at the end
-  module _ (e : length bytes ≤ at) where
+  module _ (e : length bytes ≤ at) (z : Sizes ds ls rs ms) where
     at-end : readFrom 1 0 nothing (linesOf bytes) ≡ readFrom line (s .stage) (h .file) []
     at-end = h .same ∙ ap (readFrom line (s .stage) (h .file)) (no-line (h .lines) (sym (h .text) ∙ drop-of-length-le bytes e))
 
-    pub ends-early : s .stage ≢ 5 → refusal 4 line ≡ answerOf (readFrom 1 0 nothing (linesOf bytes))
-    unfolding readFrom answerOf
-    ends-early n = rw (at-end, ne-eqb (s .stage) 5 n)
-
-    pub ends-well : Sizes ds ls rs ms → s .stage ≡ 5
-        → Found (readFrom 1 0 nothing (linesOf bytes)) (record { code = 0; at = 0; left = s .left; right = s .right; steps = s .steps }) ds ls rs ms
-    unfolding readFrom answerOf
-    ends-well z n =
-        let o : readFrom 1 0 nothing (linesOf bytes) ≡ R.read (h .file) = rw (at-end, eq-eqb (s .stage) 5 n) in
-        let l = h .holding .left (omega arith) in
-        let r = h .holding .right (omega arith) in
-        let m = h .holding .steps in
+    ends-by : (t : Bool) → eqb (s .stage) 5 ≡ t → {r : Read} → r ≡ endedIn s line → Found (readFrom 1 0 nothing (linesOf bytes)) r ds ls rs ms
+    unfolding readFrom answerOf endedIn
+    ends-by false t a = found-fault {c = 4} {n = line} (a ∙ rw t) (rw (at-end, t)) (λ z. omega arith) z
+    ends-by true t a =
+        let n = eqb-true (s .stage) 5 t in
+        let o : readFrom 1 0 nothing (linesOf bytes) ≡ R.read (h .file) = rw (at-end, t) in
+        let k = h .holding .kept in
+        let l = k .left (omega arith) in
+        let r = k .right (omega arith) in
+        let m = k .steps in
         record {
-          answer = rw (o, l .1, r .1, m .1);
+          answer = a ∙ rw (t, o, l .1, r .1, m .1);
           sizes = z;
-          words = λ f k.
+          words = λ f x.
               let y : h .file ≡ f = cc in
-              rw (← y) (h .holding .declarations (λ x. omega arith), l .0, r .0, m .0);
+              rw (← y) (k .declarations (λ x. omega arith), l .0, r .0, m .0);
         }
-
--- a fault leaves nothing to be said of the words
-pub found-fault : {o : Reading} {r : Read} {c n : ℕ} {ds ls rs ms : List ℕ} → r ≡ refusal c n → refusal c n ≡ answerOf o → c ≢ 0 → Sizes ds ls rs ms → Found o r ds ls rs ms
-found-fault {o} {r} {c} e a n z = record { answer = e ∙ a; sizes = z; words = λ f k. absurd (n (ap (λ x. x .code) a ∙ code-of k)) }
 
 -- ---- the loop
 not-empty : (bytes : Text) → badLine 1 false bytes ≡ 0 → false ≡ atEnd bytes 0
@@ -204,10 +199,10 @@ module _ {bytes : Text} {at line : ℕ} {over : Bool} {s : State} {ds ls rs ms :
       sizes-kept : Sizes es ks qs ns
       sizes-kept = (told .0 ∙ h .sizes .0, told .1 ∙ h .sizes .1, told .2 ∙ h .sizes .2, told .3 ∙ h .sizes .3)
 
-      taken : After line (keyOf (line-at .line)) (lineOf (s .stage) (h .rest .file) (line-at .line)) r es ks qs ns
+      taken : After line (keyOf (line-at .line)) (lineTaken (s .stage) (h .rest .file) (line-at .line)) r es ks qs ns
       taken = rw (line-at .is) at (told .4 (h .rest .file) (h .rest .holding))
 
-      pub line-refused : {a : Read} → a ≡ refusal (r .fault .code) (r .fault .at) → r .fault .code ≢ 0 → Found (readFrom 1 0 nothing (linesOf bytes)) a es ks qs ns
+      pub line-refused : {a : Read} → a ≡ readRefusal (r .fault .code) (r .fault .at) → r .fault .code ≢ 0 → Found (readFrom 1 0 nothing (linesOf bytes)) a es ks qs ns
       line-refused a n = found-fault a (stops (h .rest) line-at taken n) n sizes-kept
 
       pub line-taken : r .fault .code ≡ 0 → Standing bytes (p .next) (line + 1) (p .last) (r .state) es ks qs ns
@@ -219,5 +214,5 @@ module _ {bytes : Text} {at line : ℕ} {over : Bool} {s : State} {ds ls rs ms :
             rest = goes-on (h .rest) line-at taken n;
           }
 
-  pub over-end : not over ≡ false → length bytes ≤ at
-  over-end n = leb-true (length bytes) at (sym (h .over-is) ∙ not-false over n)
+  pub ends : not over ≡ false → {r : Read} → r ≡ endedIn s line → Found (readFrom 1 0 nothing (linesOf bytes)) r ds ls rs ms
+  ends n a = ends-by (h .rest) (leb-true (length bytes) at (sym (h .over-is) ∙ not-false over n)) (h .sizes) _ refl a

@@ -12,25 +12,25 @@ use text::tokens::Tokens;
 use text::tokens::read_tokens;
 ghost use mathlib.Core.Path.{_≡_};
 ghost use mathlib.Core.Bool.{cond};
-ghost use mathlib.Core.List.{List, []};
-ghost use mathlib.Core.Option.{some};
-ghost use Prim.Native.Nat.{ℕ, _≤_, _<_};
+ghost use mathlib.Core.List.{[]};
+ghost use Prim.Native.Nat.{_≤_};
 ghost use lib.Dec.{eqb};
-ghost use lib.ListN.{length, take};
+ghost use lib.ListN.{length};
 ghost use Rattle.term.specs.Parts.{part};
 ghost use Rattle.term.specs.Terms.{maxNames};
 ghost use Rattle.text.specs.Numbers.{atMost};
-ghost use Rattle.text.specs.Tokens.{tokensIn, toldTokens};
-ghost use Rattle.format.specs.Files.{File, Basis, Var, Sound};
-ghost use Rattle.format.specs.Reading.{wrong, full, kindOf, wordsBehind, variableIn, takeTypes, takeBasis, takeVariable};
+ghost use Rattle.format.specs.Files.{File, WellDeclared};
+ghost use Rattle.format.specs.Reading.{kindOfLetter, takeTypes};
 ghost use Rattle.format.specs.Kept.{declarationsOf};
+ghost use Rattle.reader.specs.Code.Keys.{keyAt};
 ghost use Rattle.reader.specs.Code.Lines as L;
-ghost use Rattle.reader.specs.Code.Lines.{putFault, kindNumber};
+ghost use Rattle.reader.specs.Code.Lines.{ordered, putCode, kindNumber, kindIn, WordsRead, PutWords};
 
 // The types of a file, before any other name.
 pub fn take_types(text: &[u8], line: usize, ds: &mut [u16]) -> Fault
     requires { ⌜ length (now ds) ≡ 6179 ⌝ }
-    ensures { λ r. ⌜ (length (now (ds .exit)) ≡ length (now (ds .entry))) × ((f : File) → f .bases ≡ [] → f .variables ≡ [] → L.Put declarationsOf line (takeTypes f (atMost maxNames (now (text .entry)))) r (now (ds .exit))) ⌝ }
+    ensures { λ r. ⌜ (length (now (ds .exit)) ≡ length (now (ds .entry))) × ((f : File) → f .bases ≡ [] → f .variables ≡ [] → L.Put declarationsOf line
+        (takeTypes f (atMost maxNames (now (text .entry)))) r (now (ds .exit))) ⌝ }
 {
     let Number::Value(n) = read_number(text) else {
         return refused(5, line);
@@ -42,38 +42,21 @@ pub fn take_types(text: &[u8], line: usize, ds: &mut [u16]) -> Fault
     refused(0, 0)
 }
 
-// What putting a name says of its line.
-fn put_fault(put: Put, line: usize) -> Fault
-    ensures { λ r. ⌜ r ≡ putFault put line ⌝ }
+// The code of a line that puts a name.
+fn put_code(put: Put) -> usize
+    ensures { λ r. ⌜ r ≡ putCode put ⌝ }
 {
     match put {
-        Put::Done => refused(0, 0),
-        Put::WrongSize => refused(7, line),
-        Put::Full => refused(6, line),
-        Put::Bad => refused(7, line),
+        Put::Done => 0,
+        Put::WrongSize => 7,
+        Put::Full => 6,
+        Put::Bad => 7,
     }
-}
-
-pub fn take_basis(text: &[u8], line: usize, ds: &mut [u16]) -> Fault
-    requires { ⌜ length (now ds) ≡ 6179 ⌝ }
-    ensures { λ r. ⌜ (length (now (ds .exit)) ≡ length (now (ds .entry))) × ((f : File) → Sound f → f .variables ≡ [] → now (ds .entry) ≡ declarationsOf f → L.Put declarationsOf line (cond (full Basis f) (wrong 6) (takeBasis f (tokensIn (now (text .entry))))) r (now (ds .exit))) ⌝ }
-{
-    if ds[1] == 32 {
-        return refused(6, line);
-    }
-    let mut words = [0u16; 126];
-    let Tokens::Count(n) = read_tokens(text, &mut words) else {
-        return refused(5, line);
-    };
-    if 63 < n {
-        return refused(7, line);
-    }
-    put_fault(put_basis(ds, &words[..n]), line)
 }
 
 // A variable's kind by its letter; 4 for any other byte.
 fn kind_of(letter: u8) -> u16
-    ensures { λ r. ⌜ r ≡ kindNumber (kindOf letter) ⌝ }
+    ensures { λ r. ⌜ r ≡ kindNumber (kindOfLetter letter) ⌝ }
 {
     if letter == 83 {
         return 0;
@@ -90,17 +73,33 @@ fn kind_of(letter: u8) -> u16
     4
 }
 
-// The tokens behind a letter, each behind a space.
-fn read_behind(text: &[u8], out: &mut [u16]) -> Tokens
-    ensures { λ r. ⌜ (length (now (out .exit)) ≡ length (now (out .entry))) × (r ≡ toldTokens (wordsBehind (now (text .entry)))) × ((ws : List ℕ) → wordsBehind (now (text .entry)) ≡ some ws → length ws ≤ length (now (out .entry)) → take (length ws) (now (out .exit)) ≡ ws) ⌝ }
+// What the k-th key's line names: a variable's kind by its letter, or 5 for a basis; 4 where the letter is none.
+fn named_kind(k: usize, text: &[u8]) -> u16
+    ensures { λ r. ⌜ r ≡ kindIn k (now (text .entry)) ⌝ }
 {
+    if k == 1 {
+        return 5;
+    }
     if text.len() == 0 {
+        return 4;
+    }
+    kind_of(text[0])
+}
+
+// The words of what is named: the tokens of a basis, or those behind a letter, each behind a space.
+fn read_words(kind: u16, text: &[u8], out: &mut [u16]) -> Tokens
+    ensures { λ r. ⌜ WordsRead kind (now (text .entry)) (now (out .entry)) r (now (out .exit)) ⌝ }
+{
+    if kind == 5 {
+        return read_tokens(text, out);
+    }
+    if text.len() < 2 {
         return Tokens::Count(0);
     }
-    if text[0] != 32 {
+    if text[1] != 32 {
         return Tokens::Malformed;
     }
-    read_tokens(&text[1..], out)
+    read_tokens(&text[2..], out)
 }
 
 // How many words a variable's first index has: an operator's second one begins where it ends.
@@ -114,32 +113,34 @@ fn first_length(kind: u16, words: &[u16]) -> usize
 }
 
 fn put_words(ds: &mut [u16], kind: u16, words: &[u16]) -> Put
-    ensures { λ r. ⌜ L.PutWords (now (ds .entry)) kind (now (words .entry)) r (now (ds .exit)) ⌝ }
+    ensures { λ r. ⌜ PutWords (now (ds .entry)) kind (now (words .entry)) r (now (ds .exit)) ⌝ }
 {
+    if kind == 5 {
+        return put_basis(ds, words);
+    }
     let n = first_length(kind, words);
     put_variable(ds, kind, &words[..n], &words[n..])
 }
 
-pub fn take_variable(text: &[u8], line: usize, ds: &mut [u16]) -> Fault
-    requires { ⌜ length (now ds) ≡ 6179 ⌝ }
-    ensures { λ r. ⌜ (length (now (ds .exit)) ≡ length (now (ds .entry))) × ((f : File) → Sound f → now (ds .entry) ≡ declarationsOf f → L.Put declarationsOf line (cond (full Var f) (wrong 6) (takeVariable f (variableIn (now (text .entry))))) r (now (ds .exit))) ⌝ }
+// A basis (1) or a variable (2), which is also the word that counts them.
+pub fn take_name(k: usize, text: &[u8], line: usize, ds: &mut [u16]) -> Fault
+    requires { ⌜ (length (now ds) ≡ 6179) × (1 ≤ k) × (k ≤ 2) ⌝ }
+    ensures { λ r. ⌜ (length (now (ds .exit)) ≡ length (now (ds .entry))) × ((f : File) → WellDeclared f → (k ≡ 1 → f .variables ≡ []) → now (ds .entry) ≡ declarationsOf f
+        → L.Put declarationsOf line (ordered (keyAt k) f (now (text .entry))) r (now (ds .exit))) ⌝ }
 {
-    if ds[2] == 32 {
+    if ds[k] == 32 {
         return refused(6, line);
     }
-    if text.len() == 0 {
-        return refused(5, line);
-    }
-    let kind = kind_of(text[0]);
-    if 3 < kind {
+    let kind = named_kind(k, text);
+    if kind == 4 {
         return refused(5, line);
     }
     let mut words = [0u16; 126];
-    let Tokens::Count(n) = read_behind(&text[1..], &mut words) else {
+    let Tokens::Count(n) = read_words(kind, text, &mut words) else {
         return refused(5, line);
     };
     if 126 < n {
         return refused(7, line);
     }
-    put_fault(put_words(ds, kind, &words[..n]), line)
+    refused(put_code(put_words(ds, kind, &words[..n])), line)
 }

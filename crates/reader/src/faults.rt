@@ -1,8 +1,8 @@
-// A fault of a line.
+// What a line is answered.
 ghost use mathlib.Core.Path.{_≡_};
 ghost use Rattle.reader.specs.Code.Lines.{fault};
 
-// A code with its line; code 0, with line 0, for none.
+// A code with its line; or code 0 with the words of the line's term, 0 where it has none.
 pub struct Fault {
     pub code: usize,
     pub at: usize,

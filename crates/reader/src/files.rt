@@ -1,4 +1,6 @@
 // The reading of a file into lent words: declarations, two terms, steps. Nothing is relied on.
+use crate::faults::Fault;
+use crate::faults::refused;
 use crate::walking::State;
 use crate::walking::take_line;
 use cursor::piece_at;
@@ -6,15 +8,10 @@ use declarations::SIZE;
 use text::pieces::bad_line;
 use words::clear_from;
 ghost use mathlib.Core.Path.{_≡_};
-ghost use mathlib.Core.Bool.{false};
-ghost use Prim.Native.Nat.{_≤_};
-ghost use lib.ListN.{length, replicate};
-ghost use Rattle.text.specs.Bytes.{badLine};
-ghost use Rattle.text.specs.Pieces.{linesOf};
-ghost use Rattle.format.specs.Reading.{readFrom, nothing, readOf};
-ghost use Rattle.format.specs.Kept.{stepsSize};
-ghost use Rattle.reader.specs.Answers.{refusal, sized, readAnswer, declarationsAfter, leftAfter, rightAfter, stepsAfter};
-ghost use Rattle.reader.specs.Code.Holding.{Found};
+ghost use lib.ListN.{length};
+ghost use Rattle.format.specs.Reading.{readOf};
+ghost use Rattle.reader.specs.Answers.{readRefusal, sized, Done};
+ghost use Rattle.reader.specs.Code.Holding.{BytesTold, endedIn, Found};
 
 // A code with its line; or what was read, with code 0: the lengths of the two terms, and how many steps there are.
 pub struct Read {
@@ -29,7 +26,7 @@ pub struct Read {
 pub const STEPS_SIZE: usize = 8000;
 
 fn refuse(code: usize, at: usize) -> Read
-    ensures { λ r. ⌜ r ≡ refusal code at ⌝ }
+    ensures { λ r. ⌜ r ≡ readRefusal code at ⌝ }
 {
     Read {
         code,
@@ -40,39 +37,24 @@ fn refuse(code: usize, at: usize) -> Read
     }
 }
 
-// The lines of a file whose bytes are good.
-fn read_lines(
-    bytes: &[u8],
-    ds: &mut [u16],
-    left: &mut [u16],
-    right: &mut [u16],
-    steps: &mut [u16],
-) -> Read
-    requires { ⌜ (length (now ds) ≡ 6179) × (length (now left) ≡ 4096) × (length (now right) ≡ 4096) × (length (now steps) ≡ 8000) × (badLine 1 false (now bytes) ≡ 0) × (now steps ≡ replicate stepsSize 0) × (length (now bytes) ≤ 65536) ⌝ }
-    ensures { λ r. ⌜ Found (readFrom 1 0 nothing (linesOf (now (bytes .entry)))) r (now (ds .exit)) (now (left .exit)) (now (right .exit)) (now (steps .exit)) ⌝ }
+// Codes 2 and 3, or code 0.
+fn bytes_fault(bytes: &[u8]) -> Fault
+    ensures { λ r. ⌜ BytesTold (now (bytes .entry)) r ⌝ }
 {
-    let mut s = State {
-        stage: 0,
-        left: 0,
-        right: 0,
-        steps: 0,
-    };
-    let mut at = 0;
-    let mut line = 1;
-    let mut ended = false;
-    while !ended {
-        let span = piece_at(bytes, at, 10);
-        let end = span.end;
-        let taken = take_line(&bytes[at..end], line, s, ds, left, right, steps);
-        let fault = taken.fault;
-        if fault.code != 0 {
-            return refuse(fault.code, fault.at);
-        }
-        s = taken.state;
-        at = span.next;
-        line += 1;
-        ended = span.last;
+    if 65536 < bytes.len() {
+        return refused(2, 0);
     }
+    let bad = bad_line(bytes);
+    if bad != 0 {
+        return refused(3, bad);
+    }
+    refused(0, 0)
+}
+
+// What was read up to the end of the file, whose lines are counted.
+fn ended_in(s: State, line: usize) -> Read
+    ensures { λ r. ⌜ r ≡ endedIn s line ⌝ }
+{
     if s.stage != 5 {
         return refuse(4, line);
     }
@@ -85,26 +67,39 @@ fn read_lines(
     }
 }
 
-// Codes 2 and 3, and then the lines.
-fn read_bytes(
-    bytes: &[u8],
-    ds: &mut [u16],
-    left: &mut [u16],
-    right: &mut [u16],
-    steps: &mut [u16],
-) -> Read
-    requires { ⌜ (length (now ds) ≡ 6179) × (length (now left) ≡ 4096) × (length (now right) ≡ 4096) × (length (now steps) ≡ 8000) ⌝ }
-    ensures { λ r. ⌜ Found (readOf (now (bytes .entry))) r (now (ds .exit)) (now (left .exit)) (now (right .exit)) (now (steps .exit)) ⌝ }
+// The bytes of a file, and then its lines.
+fn read_lines(bytes: &[u8], ds: &mut [u16], ls: &mut [u16], rs: &mut [u16], ms: &mut [u16]) -> Read
+    requires { ⌜ (length (now ds) ≡ 6179) × (length (now ls) ≡ 4096) × (length (now rs) ≡ 4096) × (length (now ms) ≡ 8000) ⌝ }
+    ensures { λ r. ⌜ Found (readOf (now (bytes .entry))) r (now (ds .exit)) (now (ls .exit)) (now (rs .exit)) (now (ms .exit)) ⌝ }
 {
-    if 65536 < bytes.len() {
-        return refuse(2, 0);
+    let bad = bytes_fault(bytes);
+    if bad.code != 0 {
+        return refuse(bad.code, bad.at);
     }
-    let bad = bad_line(bytes);
-    if bad != 0 {
-        return refuse(3, bad);
+    clear_from(ms, 0);
+    let mut s = State {
+        stage: 0,
+        left: 0,
+        right: 0,
+        steps: 0,
+    };
+    let mut at = 0;
+    let mut line = 1;
+    let mut ended = false;
+    while !ended {
+        let span = piece_at(bytes, at, 10);
+        let end = span.end;
+        let taken = take_line(&bytes[at..end], line, s, ds, ls, rs, ms);
+        let fault = taken.fault;
+        if fault.code != 0 {
+            return refuse(fault.code, fault.at);
+        }
+        s = taken.state;
+        at = span.next;
+        line += 1;
+        ended = span.last;
     }
-    clear_from(steps, 0);
-    read_lines(bytes, ds, left, right, steps)
+    ended_in(s, line)
 }
 
 fn are_sized(ds: &[u16], left: &[u16], right: &[u16], steps: &[u16]) -> bool
@@ -131,12 +126,13 @@ pub fn read_file(
     right: &mut [u16],
     steps: &mut [u16],
 ) -> Read
-    ensures { λ r. ⌜ (r ≡ readAnswer (now (bytes .entry)) (now (ds .entry)) (now (left .entry)) (now (right .entry)) (now (steps .entry))) × (now (ds .exit) ≡ declarationsAfter (now (bytes .entry)) (now (ds .entry)) (now (left .entry)) (now (right .entry)) (now (steps .entry))) × (now (left .exit) ≡ leftAfter (now (bytes .entry)) (now (ds .entry)) (now (left .entry)) (now (right .entry)) (now (steps .entry))) × (now (right .exit) ≡ rightAfter (now (bytes .entry)) (now (ds .entry)) (now (left .entry)) (now (right .entry)) (now (steps .entry))) × (now (steps .exit) ≡ stepsAfter (now (bytes .entry)) (now (ds .entry)) (now (left .entry)) (now (right .entry)) (now (steps .entry))) ⌝ }
+    ensures { λ r. ⌜ Done (now (bytes .entry)) (now (ds .entry)) (now (left .entry)) (now (right .entry)) (now (steps .entry)) r (now (ds .exit)) (now (left .exit))
+        (now (right .exit)) (now (steps .exit)) ⌝ }
 {
     if !are_sized(ds, left, right, steps) {
         return refuse(1, 0);
     }
-    let read = read_bytes(bytes, ds, left, right, steps);
+    let read = read_lines(bytes, ds, left, right, steps);
     if read.code != 0 {
         clear_from(ds, 0);
         clear_from(left, 0);

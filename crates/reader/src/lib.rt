@@ -2,6 +2,7 @@
 mod declaring;
 mod faults;
 pub mod files;
+mod keys;
 mod stepping;
 mod terms;
 mod walking;

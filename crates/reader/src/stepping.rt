@@ -9,17 +9,14 @@ use term::parts::Side;
 use text::numbers::Number;
 use text::numbers::read_number;
 ghost use mathlib.Core.Path.{_≡_};
-ghost use mathlib.Core.Bool.{cond};
 ghost use Prim.Native.Nat.{_≤_};
 ghost use lib.ListN.{length};
-ghost use Rattle.text.specs.Pieces.{parted, space};
+ghost use Rattle.term.specs.declared.parts.Side as D;
 ghost use Rattle.text.specs.Numbers.{numberIn};
 ghost use Rattle.format.specs.Files.{File};
-ghost use Rattle.format.specs.Files as F;
-ghost use Rattle.format.specs.Reading.{wrong, full, moveIn, takeStep, takeEnd};
-ghost use Rattle.format.specs.Kept.{stepsOf};
-ghost use Rattle.reader.specs.Code.Lines as L;
-ghost use Rattle.reader.specs.Code.Lines.{SideRead, FieldRead, faultOf};
+ghost use Rattle.format.specs.Reading.{takeEnd};
+ghost use Rattle.reader.specs.declared.stepping.Sided.the-variants as S;
+ghost use Rattle.reader.specs.Code.Lines.{Answers, SideRead, FieldRead, moveBy, FieldsRead, StepTaken};
 
 // The side that a step line names.
 enum Sided {
@@ -67,9 +64,28 @@ fn read_field(text: &[u8], at: usize) -> Field
     Field::Number(n as u16, span.next)
 }
 
+// The numbers of a step line behind its side: whether there are four and no more.
+fn read_fields(text: &[u8], out: &mut [u16]) -> bool
+    requires { ⌜ length (now out) ≡ 4 ⌝ }
+    ensures { λ r. ⌜ (length (now (out .exit)) ≡ length (now (out .entry))) × ((d : D.Side) → SideRead (now (text .entry)) (S.Named d) → FieldsRead (now (text .entry))
+        (moveBy d (now (out .exit))) r) ⌝ }
+{
+    let mut at = 2;
+    let mut i = 0;
+    while i < 4 {
+        let Field::Number(n, next) = read_field(text, at) else {
+            return false;
+        };
+        out[i] = n;
+        at = next;
+        i += 1;
+    }
+    text.len() < at
+}
+
 // 01: "a step line that does not split into its five fields ends the reading".
 pub fn take_step(text: &[u8], line: usize, steps: &mut [u16], k: usize) -> Fault
-    ensures { λ r. ⌜ (length (now (steps .exit)) ≡ length (now (steps .entry))) × ((f : File) → length (f .steps) ≤ 1000 → k ≡ length (f .steps) → now (steps .entry) ≡ stepsOf f → L.Put stepsOf line (cond (full F.Step f) (wrong 6) (takeStep f (moveIn (parted space (now (text .entry)))))) r (now (steps .exit))) ⌝ }
+    ensures { λ r. ⌜ StepTaken (now (text .entry)) line k (now (steps .entry)) r (now (steps .exit)) ⌝ }
 {
     if k == MOST_STEPS {
         return refused(6, line);
@@ -77,29 +93,24 @@ pub fn take_step(text: &[u8], line: usize, steps: &mut [u16], k: usize) -> Fault
     let Sided::Named(side) = read_side(text) else {
         return refused(5, line);
     };
-    let Field::Number(rule, at) = read_field(text, 2) else {
-        return refused(5, line);
-    };
-    let Field::Number(place, next) = read_field(text, at) else {
-        return refused(5, line);
-    };
-    let Field::Number(i, last) = read_field(text, next) else {
-        return refused(5, line);
-    };
-    let Field::Number(j, end) = read_field(text, last) else {
-        return refused(5, line);
-    };
-    if end <= text.len() {
+    let mut ns = [0u16; 4];
+    if !read_fields(text, &mut ns) {
         return refused(5, line);
     }
-    put_step(steps, k, side, Step { rule, place, i, j });
+    let step = Step {
+        rule: ns[0],
+        place: ns[1],
+        i: ns[2],
+        j: ns[3],
+    };
+    put_step(steps, k, side, step);
     refused(0, 0)
 }
 
 // The last line, behind `k` steps.
 pub fn take_end(text: &[u8], line: usize, k: usize) -> Fault
     requires { ⌜ k ≤ 1000 ⌝ }
-    ensures { λ r. ⌜ ((f : File) → k ≡ length (f .steps) → r ≡ faultOf line (takeEnd f (numberIn (now (text .entry))))) ⌝ }
+    ensures { λ r. ⌜ ((f : File) → k ≡ length (f .steps) → Answers line (takeEnd f (numberIn (now (text .entry)))) r) ⌝ }
 {
     let Number::Value(n) = read_number(text) else {
         return refused(5, line);

@@ -8,38 +8,22 @@ use text::tokens::read_tokens;
 use words::clear_from;
 ghost use mathlib.Core.Path.{_≡_};
 ghost use lib.ListN.{length};
-ghost use Rattle.format.specs.Files.{File, Sound};
+ghost use Rattle.format.specs.Files.{File, WellDeclared};
 ghost use Rattle.format.specs.Kept.{declarationsOf};
 ghost use Rattle.reader.specs.Code.Lines.{Placed};
 
-// The fault of a term's line, and the words of the term.
-pub struct Term {
-    pub fault: Fault,
-    pub length: usize,
-}
-
-fn no_term(code: usize, line: usize) -> Term
-    ensures { λ r. ⌜ r ≡ record { fault = record { code = code; at = line }; length = 0 } ⌝ }
-{
-    Term {
-        fault: refused(code, line),
-        length: 0,
-    }
-}
-
-pub fn take_term(text: &[u8], line: usize, ds: &[u16], out: &mut [u16]) -> Term
+// The words of the term, with code 0; or the fault.
+pub fn take_term(text: &[u8], line: usize, ds: &[u16], out: &mut [u16]) -> Fault
     requires { ⌜ length (now out) ≡ 4096 ⌝ }
-    ensures { λ r. ⌜ (length (now (out .exit)) ≡ length (now (out .entry))) × ((f : File) → Sound f → now (ds .entry) ≡ declarationsOf f → Placed f line (now (text .entry)) r (now (out .exit))) ⌝ }
+    ensures { λ r. ⌜ (length (now (out .exit)) ≡ length (now (out .entry))) × ((f : File) → WellDeclared f → now (ds .entry) ≡ declarationsOf f → Placed f line (now (text .entry))
+        r (now (out .exit))) ⌝ }
 {
     clear_from(out, 0);
     let Tokens::Count(n) = read_tokens(text, out) else {
-        return no_term(5, line);
+        return refused(5, line);
     };
     if !is_term(names_of(ds), out, n) {
-        return no_term(8, line);
+        return refused(8, line);
     }
-    Term {
-        fault: refused(0, 0),
-        length: n,
-    }
+    refused(0, n)
 }

@@ -16,7 +16,7 @@ use Rattle.term.specs.Heads.{word}
 use Rattle.rules.specs.Patterns.{Pattern, #_, first, second, _⟨⟩, _⟨_⟩, _⟨_∣_⟩}
 use Rattle.rules.specs.Table.{Condition, Rule, _⇒_▷_, Line, _∶_, table, find, ruleOf}
 use Rattle.rulebook.specs.declared.Row.{Row}
-use Rattle.rulebook.specs.Code.Rows.{patternWords, ruleWords, wordsOf, grouped, linesIn, wordsIn, startAmong, startIn, row, rowFor, rowOf, lineOf, conditionNumber}
+use Rattle.rulebook.specs.Code.Rows.{patternWords, ruleWords, wordsOf, grouped, linesIn, wordsIn, startAmong, startIn, row, rowFor, rowOf, rowLine, conditionNumber}
 
 -- ---- no rule has a number from 184 on
 below : ℕ → List Line → Bool
@@ -30,15 +30,15 @@ find-past m ((k ∶ r) ∷ ls) e n h =
     let p = and-eq-true-iff (ltb k m) _ .0 e in
     rw (ne-eqb n k (λ z. omega (arith, ltb-true k m (p .0), z, h))) (find-past m ls (p .1) n h)
 
-pub line-past : (n : ℕ) → 184 ≤ n → lineOf (rowOf n) ≡ 0
-unfolding lineOf rowOf ruleOf rowFor below
+pub line-past : (n : ℕ) → 184 ≤ n → rowLine (rowOf n) ≡ 0
+unfolding rowLine rowOf ruleOf rowFor below
 line-past n h = rw (find-past 184 table refl n h)
 
 -- the rows from a number on, as many as one array holds
-pub line-from : (from n rule : ℕ) → from ≤ rule → rule < from + n → getD (upTo n (λ k. lineOf (rowOf (from + k)))) (rule - from) 0 ≡ lineOf (rowOf rule)
+pub line-from : (from n rule : ℕ) → from ≤ rule → rule < from + n → getD (upTo n (λ k. rowLine (rowOf (from + k)))) (rule - from) 0 ≡ rowLine (rowOf rule)
 line-from from n rule h l =
     let z : from + (rule - from) ≡ rule = omega arith in
-    upTo-read n (λ k. lineOf (rowOf (from + k))) 0 (rule - from) (omega arith) ∙ rw z
+    upTo-read n (λ k. rowLine (rowOf (from + k))) 0 (rule - from) (omega arith) ∙ rw z
 
 -- ---- a row is told by its digits: a computed test of every number
 abbrev rowIn : ℕ → Row
@@ -61,10 +61,10 @@ same-row r s e =
     let d = eqb-true _ _ (u .1) in
     λ i. record { family = f i; a = a i; b = b i; c = c i; d = d i }
 
-pub row-in : (n : ℕ) → rowIn (lineOf (rowOf n)) ≡ rowOf n
-unfolding allUpTo sameRow below lineOf rowOf ruleOf startAmong grouped word
+pub row-in : (n : ℕ) → rowIn (rowLine (rowOf n)) ≡ rowOf n
+unfolding allUpTo sameRow below rowLine rowOf ruleOf startAmong grouped word
 row-in n = elim (decLt n 184) [
-  | yes h ↦ same-row _ _ (allUpTo-at 184 (λ k. sameRow (rowIn (lineOf (rowOf k))) (rowOf k)) refl n h)
+  | yes h ↦ same-row _ _ (allUpTo-at 184 (λ k. sameRow (rowIn (rowLine (rowOf k))) (rowOf k)) refl n h)
   | no h ↦ rw (find-past 184 table refl n (omega arith))
 ]
 
@@ -130,7 +130,8 @@ module _ (n : ℕ) (ls : List Line) {k : Condition} {l r : Pattern} (e : find n 
   stands : Stand n ls l r
   stands = stand n ls l r e
 
-  sides-among : (take (length (patternWords l)) (drop (startAmong n ls) (wordsOf ls)) ≡ patternWords l) × (take (length (patternWords r)) (drop (startAmong n ls + length (patternWords l)) (wordsOf ls)) ≡ patternWords r)
+  sides-among : (take (length (patternWords l)) (drop (startAmong n ls) (wordsOf ls)) ≡ patternWords l)
+      × (take (length (patternWords r)) (drop (startAmong n ls + length (patternWords l)) (wordsOf ls)) ≡ patternWords r)
   sides-among = rw (← drop-drop (length (patternWords l)) (startAmong n ls) (wordsOf ls), stands .are, drop-append-seam) (take-append-seam _ _, take-append-seam _ _)
 
   inside-among : startAmong n ls + length (patternWords l) + length (patternWords r) ≤ length (wordsOf ls)

@@ -10,7 +10,7 @@ ghost use mathlib.Core.Path.{_≡_};
 ghost use Prim.Native.Nat.{_/_};
 ghost use lib.ListN.{drop};
 ghost use Rattle.words.specs.Words.{overlaid};
-ghost use Rattle.rulebook.specs.Code.Rows.{rowOf, lineOf, wordsIn};
+ghost use Rattle.rulebook.specs.Code.Rows.{rowOf, rowLine, wordsIn};
 
 // What a rule is: its family, and what the family asks (`rowFor` of specs/Code/Rows has the list).
 pub struct Row {
@@ -221,7 +221,7 @@ const ROWS_FROM_150: [u32; 34] = [
 
 // The digits of a rule's row, and 0 for a number that is no rule's.
 fn line_of(rule: usize) -> u32
-    ensures { λ r. ⌜ r ≡ lineOf (rowOf rule) ⌝ }
+    ensures { λ r. ⌜ r ≡ rowLine (rowOf rule) ⌝ }
 {
     if rule < 50 {
         return ROWS_FROM_0[rule];

@@ -2,7 +2,7 @@
 use mathlib.Core.Path.{_≡_, refl}
 use Prim.Native.Nat.{ℕ, _*_}
 use Rattle.algebra.specs.Semirings.{Arithmetic, StarSemiring}
-use Rattle.algebra.specs.Matrices.{Matrix, _≈_, Shape, number, scalar, add, scale, mul, adjoint, kronecker}
+use Rattle.algebra.specs.Matrices.{Matrix, _≈_, HasShape, number, scalar, add, scale, mul, adjoint, kronecker}
 use Rattle.algebra.proofs.Semirings.{add-mul}
 use Rattle.algebra.proofs.Alike.{≈-refl, ≡→≈, number-≈, everywhere, scale-≈, mul-≈, adjoint-≈, kronecker-≈}
 use Rattle.algebra.proofs.Shapes.{same-rows, same-columns, conformable, shape-scalar, shape-scale, shape-mul, shape-adjoint, shape-kronecker}
@@ -13,11 +13,11 @@ use Rattle.algebra.proofs.Kronecker as Kronecker
 module _ {R : Type 0} {𝓐 : Arithmetic R} (𝓡 : StarSemiring 𝓐) where
   -- from matrices of m by n to matrices of m′ by n′
   pub record Additive (m n m′ n′ : ℕ) (Φ : Matrix R → Matrix R) : Type 0 where
-    pub shaped : (A : Matrix R) → Shape A m n → Shape (Φ A) m′ n′
-    pub alike : (A B : Matrix R) → Shape A m n → A ≈ B → Φ A ≈ Φ B
-    pub adds : (A B : Matrix R) → Shape A m n → Shape B m n → Φ (add 𝓐 A B) ≈ add 𝓐 (Φ A) (Φ B)
+    pub shaped : (A : Matrix R) → HasShape A m n → HasShape (Φ A) m′ n′
+    pub alike : (A B : Matrix R) → HasShape A m n → A ≈ B → Φ A ≈ Φ B
+    pub adds : (A B : Matrix R) → HasShape A m n → HasShape B m n → Φ (add 𝓐 A B) ≈ add 𝓐 (Φ A) (Φ B)
 
-  pub times-right : {m n k : ℕ} (K : Matrix R) → Shape K n k → Additive m n m k (λ A. mul 𝓐 A K)
+  pub times-right : {m n k : ℕ} (K : Matrix R) → HasShape K n k → Additive m n m k (λ A. mul 𝓐 A K)
   times-right K s =
       record {
         shaped = λ A a. shape-mul 𝓐 a s;
@@ -25,7 +25,7 @@ module _ {R : Type 0} {𝓐 : Arithmetic R} (𝓡 : StarSemiring 𝓐) where
         adds = λ A B a b. Products.add-mul 𝓡 A B K (same-columns a b);
       }
 
-  pub times-left : {m n k : ℕ} (O : Matrix R) → Shape O m n → Additive n k m k (λ A. mul 𝓐 O A)
+  pub times-left : {m n k : ℕ} (O : Matrix R) → HasShape O m n → Additive n k m k (λ A. mul 𝓐 O A)
   times-left O s =
       record {
         shaped = λ A a. shape-mul 𝓐 s a;
@@ -40,7 +40,7 @@ module _ {R : Type 0} {𝓐 : Arithmetic R} (𝓡 : StarSemiring 𝓐) where
   pub adjoined : {m n : ℕ} → Additive m n n m (λ A. adjoint 𝓐 A)
   adjoined = record { shaped = λ A a. shape-adjoint 𝓐 a; alike = λ A B a p. adjoint-≈ 𝓐 p; adds = λ A B a b. Linear.adjoint-add 𝓡 A B }
 
-  pub kronecker-right : {m n k l : ℕ} (B : Matrix R) → Shape B k l → Additive m n (m * k) (n * l) (λ A. kronecker 𝓐 A B)
+  pub kronecker-right : {m n k l : ℕ} (B : Matrix R) → HasShape B k l → Additive m n (m * k) (n * l) (λ A. kronecker 𝓐 A B)
   kronecker-right K s =
       record {
         shaped = λ A a. shape-kronecker 𝓐 a s;
@@ -48,7 +48,7 @@ module _ {R : Type 0} {𝓐 : Arithmetic R} (𝓡 : StarSemiring 𝓐) where
         adds = λ A B a b. Kronecker.add-kronecker 𝓡 A B K;
       }
 
-  pub kronecker-left : {m n k l : ℕ} (B : Matrix R) → Shape B k l → Additive m n (k * m) (l * n) (λ A. kronecker 𝓐 B A)
+  pub kronecker-left : {m n k l : ℕ} (B : Matrix R) → HasShape B k l → Additive m n (k * m) (l * n) (λ A. kronecker 𝓐 B A)
   kronecker-left K s =
       record {
         shaped = λ A a. shape-kronecker 𝓐 s a;

@@ -18,9 +18,10 @@ use Rattle.rules.proofs.Every.{Every, _⨾_, every-rule}
 use Rattle.rules.proofs.FamilyMeanings.{swap-means, merge-means, remove-means, collect-means, unit-value, absorb-means}
 use Rattle.rules.proofs.Forests.{Fitting, scalar-zeros, scalar-ones, ket-zeros, bra-zeros, operator-zeros, fitting-chain}
 use Rattle.rules.proofs.Lines.{Law, given, value}
-use Rattle.rules.proofs.Meanings.{means-2, means-3, means-10, means-11, means-14, means-15, means-16, means-20, means-21, means-22, means-23, means-26, means-27, means-28, means-29, means-30, means-31, means-32, means-33, means-34, means-40, means-41, means-43, means-44, means-45, means-46, means-47, means-48, means-50, means-60, means-61, means-63, means-64, means-65, means-66, means-67, means-68, means-69, means-70, means-71, means-72, means-73, means-80, means-81, means-84, means-85, means-86, means-87, means-88, means-89, means-90, means-91, means-92, means-93, means-100, means-101, means-102, means-103, means-104, means-107, means-108, means-109, means-110, means-111, means-120, means-121, means-122, means-123, means-124, means-127, means-128, means-129, means-130, means-131, means-140, means-141, means-142, means-143, means-150, means-151, means-152, means-153, means-154, means-155, means-156, means-157, means-160, means-161, means-162}
+use Rattle.rules.proofs.Meanings as Meanings
 use Rattle.rules.proofs.Summing.{means-180, means-181, means-183, distribute-means}
-use Rattle.rules.proofs.Spreading.{First, Second, product-any, conjugate-sum, conjugate-product, dot-first, dot-second, scale-second, adjoint-first, tensor-first, tensor-second, mulk-first, mulk-second, mulb-first, mulb-second, outer-first, outer-second, mulo-first, mulo-second}
+use Rattle.rules.proofs.Spreading.{First, Second, product-any, conjugate-sum, conjugate-product, dots, on-kets, on-bras, outers, on-operators, times-first, times-second}
+use Rattle.rules.proofs.Spreading.{scale-second, adjoint-first, tensor-first, tensor-second}
 
 module _ {R : Type 0} {𝓐 : Arithmetic R} (𝓡 : StarSemiring 𝓐) {Γ : Context} {χ : Choice R} (W : WellFormed Γ) (F : Fits 𝓐 Γ χ) where
   abbrev pub RuleMeans : Rule → Type 0
@@ -66,44 +67,44 @@ module _ {R : Type 0} {𝓐 : Arithmetic R} (𝓡 : StarSemiring 𝓐) {Γ : Con
   every-means : Every RuleMeans table
   every-means =
       merging-means ⨾
-      equation (means-2 𝓡 W F) ⨾
-      equation (means-3 𝓡 W F) ⨾
+      equation (Meanings.means-2 𝓡 W F) ⨾
+      equation (Meanings.means-3 𝓡 W F) ⨾
       removing-means scalar-zeros ⨾
       absorbing-means ⨾
       removing-means scalar-ones ⨾
       spreading-any (product-any 𝓡 W F) ⨾
-      equation (means-10 𝓡 W F) ⨾
-      equation (means-11 𝓡 W F) ⨾
+      equation (Meanings.means-10 𝓡 W F) ⨾
+      equation (Meanings.means-11 𝓡 W F) ⨾
       spreading-first (conjugate-sum 𝓡 W F) ⨾
       spreading-first (conjugate-product 𝓡 W F) ⨾
-      equation (means-14 𝓡 W F) ⨾
-      equation (means-15 𝓡 W F) ⨾
-      equation (means-16 𝓡 W F) ⨾
-      equation (means-20 𝓡 W F) ⨾
-      equation (means-21 𝓡 W F) ⨾
-      equation (means-22 𝓡 W F) ⨾
-      equation (means-23 𝓡 W F) ⨾
-      spreading-first (dot-first 𝓡 W F) ⨾
-      spreading-second (dot-second 𝓡 W F) ⨾
-      equation (means-26 𝓡 W F) ⨾
-      equation (means-27 𝓡 W F) ⨾
-      equation (means-28 𝓡 W F) ⨾
-      equation (means-29 𝓡 W F) ⨾
-      equation (means-30 𝓡 W F) ⨾
-      equation (means-31 𝓡 W F) ⨾
-      equation (means-32 𝓡 W F) ⨾
-      equation (means-33 𝓡 W F) ⨾
-      equation (means-34 𝓡 W F) ⨾
-      equation (means-40 𝓡 W F) ⨾
-      equation (means-41 𝓡 W F) ⨾
+      equation (Meanings.means-14 𝓡 W F) ⨾
+      equation (Meanings.means-15 𝓡 W F) ⨾
+      equation (Meanings.means-16 𝓡 W F) ⨾
+      equation (Meanings.means-20 𝓡 W F) ⨾
+      equation (Meanings.means-21 𝓡 W F) ⨾
+      equation (Meanings.means-22 𝓡 W F) ⨾
+      equation (Meanings.means-23 𝓡 W F) ⨾
+      spreading-first (times-first 𝓡 W F dots) ⨾
+      spreading-second (times-second 𝓡 W F dots) ⨾
+      equation (Meanings.means-26 𝓡 W F) ⨾
+      equation (Meanings.means-27 𝓡 W F) ⨾
+      equation (Meanings.means-28 𝓡 W F) ⨾
+      equation (Meanings.means-29 𝓡 W F) ⨾
+      equation (Meanings.means-30 𝓡 W F) ⨾
+      equation (Meanings.means-31 𝓡 W F) ⨾
+      equation (Meanings.means-32 𝓡 W F) ⨾
+      equation (Meanings.means-33 𝓡 W F) ⨾
+      equation (Meanings.means-34 𝓡 W F) ⨾
+      equation (Meanings.means-40 𝓡 W F) ⨾
+      equation (Meanings.means-41 𝓡 W F) ⨾
       spreading-second (scale-second 𝓡 W F) ⨾
-      equation (means-43 𝓡 W F) ⨾
-      equation (means-44 𝓡 W F) ⨾
-      equation (means-45 𝓡 W F) ⨾
-      equation (means-46 𝓡 W F) ⨾
-      equation (means-47 𝓡 W F) ⨾
-      equation (means-48 𝓡 W F) ⨾
-      equation (means-50 𝓡 W F) ⨾
+      equation (Meanings.means-43 𝓡 W F) ⨾
+      equation (Meanings.means-44 𝓡 W F) ⨾
+      equation (Meanings.means-45 𝓡 W F) ⨾
+      equation (Meanings.means-46 𝓡 W F) ⨾
+      equation (Meanings.means-47 𝓡 W F) ⨾
+      equation (Meanings.means-48 𝓡 W F) ⨾
+      equation (Meanings.means-50 𝓡 W F) ⨾
       collecting-means ⨾
       collecting-means ⨾
       collecting-means ⨾
@@ -111,77 +112,77 @@ module _ {R : Type 0} {𝓐 : Arithmetic R} (𝓡 : StarSemiring 𝓐) {Γ : Con
       removing-means ket-zeros ⨾
       removing-means bra-zeros ⨾
       removing-means operator-zeros ⨾
-      equation (means-60 𝓡 W F) ⨾
-      equation (means-61 𝓡 W F) ⨾
+      equation (Meanings.means-60 𝓡 W F) ⨾
+      equation (Meanings.means-61 𝓡 W F) ⨾
       spreading-first (adjoint-first 𝓡 W F) ⨾
-      equation (means-63 𝓡 W F) ⨾
-      equation (means-64 𝓡 W F) ⨾
-      equation (means-65 𝓡 W F) ⨾
-      equation (means-66 𝓡 W F) ⨾
-      equation (means-67 𝓡 W F) ⨾
-      equation (means-68 𝓡 W F) ⨾
-      equation (means-69 𝓡 W F) ⨾
-      equation (means-70 𝓡 W F) ⨾
-      equation (means-71 𝓡 W F) ⨾
-      equation (means-72 𝓡 W F) ⨾
-      equation (means-73 𝓡 W F) ⨾
-      equation (means-80 𝓡 W F) ⨾
-      equation (means-81 𝓡 W F) ⨾
+      equation (Meanings.means-63 𝓡 W F) ⨾
+      equation (Meanings.means-64 𝓡 W F) ⨾
+      equation (Meanings.means-65 𝓡 W F) ⨾
+      equation (Meanings.means-66 𝓡 W F) ⨾
+      equation (Meanings.means-67 𝓡 W F) ⨾
+      equation (Meanings.means-68 𝓡 W F) ⨾
+      equation (Meanings.means-69 𝓡 W F) ⨾
+      equation (Meanings.means-70 𝓡 W F) ⨾
+      equation (Meanings.means-71 𝓡 W F) ⨾
+      equation (Meanings.means-72 𝓡 W F) ⨾
+      equation (Meanings.means-73 𝓡 W F) ⨾
+      equation (Meanings.means-80 𝓡 W F) ⨾
+      equation (Meanings.means-81 𝓡 W F) ⨾
       spreading-first (tensor-first 𝓡 W F) ⨾
       spreading-second (tensor-second 𝓡 W F) ⨾
-      equation (means-84 𝓡 W F) ⨾
-      equation (means-85 𝓡 W F) ⨾
-      equation (means-86 𝓡 W F) ⨾
-      equation (means-87 𝓡 W F) ⨾
-      equation (means-88 𝓡 W F) ⨾
-      equation (means-89 𝓡 W F) ⨾
-      equation (means-90 𝓡 W F) ⨾
-      equation (means-91 𝓡 W F) ⨾
-      equation (means-92 𝓡 W F) ⨾
-      equation (means-93 𝓡 W F) ⨾
-      equation (means-100 𝓡 W F) ⨾
-      equation (means-101 𝓡 W F) ⨾
-      equation (means-102 𝓡 W F) ⨾
-      equation (means-103 𝓡 W F) ⨾
-      equation (means-104 𝓡 W F) ⨾
-      spreading-first (mulk-first 𝓡 W F) ⨾
-      spreading-second (mulk-second 𝓡 W F) ⨾
-      equation (means-107 𝓡 W F) ⨾
-      equation (means-108 𝓡 W F) ⨾
-      equation (means-109 𝓡 W F) ⨾
-      equation (means-110 𝓡 W F) ⨾
-      equation (means-111 𝓡 W F) ⨾
-      equation (means-120 𝓡 W F) ⨾
-      equation (means-121 𝓡 W F) ⨾
-      equation (means-122 𝓡 W F) ⨾
-      equation (means-123 𝓡 W F) ⨾
-      equation (means-124 𝓡 W F) ⨾
-      spreading-first (mulb-first 𝓡 W F) ⨾
-      spreading-second (mulb-second 𝓡 W F) ⨾
-      equation (means-127 𝓡 W F) ⨾
-      equation (means-128 𝓡 W F) ⨾
-      equation (means-129 𝓡 W F) ⨾
-      equation (means-130 𝓡 W F) ⨾
-      equation (means-131 𝓡 W F) ⨾
-      equation (means-140 𝓡 W F) ⨾
-      equation (means-141 𝓡 W F) ⨾
-      equation (means-142 𝓡 W F) ⨾
-      equation (means-143 𝓡 W F) ⨾
-      spreading-first (outer-first 𝓡 W F) ⨾
-      spreading-second (outer-second 𝓡 W F) ⨾
-      equation (means-150 𝓡 W F) ⨾
-      equation (means-151 𝓡 W F) ⨾
-      equation (means-152 𝓡 W F) ⨾
-      equation (means-153 𝓡 W F) ⨾
-      equation (means-154 𝓡 W F) ⨾
-      equation (means-155 𝓡 W F) ⨾
-      equation (means-156 𝓡 W F) ⨾
-      equation (means-157 𝓡 W F) ⨾
-      spreading-first (mulo-first 𝓡 W F) ⨾
-      spreading-second (mulo-second 𝓡 W F) ⨾
-      equation (means-160 𝓡 W F) ⨾
-      equation (means-161 𝓡 W F) ⨾
-      equation (means-162 𝓡 W F) ⨾
+      equation (Meanings.means-84 𝓡 W F) ⨾
+      equation (Meanings.means-85 𝓡 W F) ⨾
+      equation (Meanings.means-86 𝓡 W F) ⨾
+      equation (Meanings.means-87 𝓡 W F) ⨾
+      equation (Meanings.means-88 𝓡 W F) ⨾
+      equation (Meanings.means-89 𝓡 W F) ⨾
+      equation (Meanings.means-90 𝓡 W F) ⨾
+      equation (Meanings.means-91 𝓡 W F) ⨾
+      equation (Meanings.means-92 𝓡 W F) ⨾
+      equation (Meanings.means-93 𝓡 W F) ⨾
+      equation (Meanings.means-100 𝓡 W F) ⨾
+      equation (Meanings.means-101 𝓡 W F) ⨾
+      equation (Meanings.means-102 𝓡 W F) ⨾
+      equation (Meanings.means-103 𝓡 W F) ⨾
+      equation (Meanings.means-104 𝓡 W F) ⨾
+      spreading-first (times-first 𝓡 W F on-kets) ⨾
+      spreading-second (times-second 𝓡 W F on-kets) ⨾
+      equation (Meanings.means-107 𝓡 W F) ⨾
+      equation (Meanings.means-108 𝓡 W F) ⨾
+      equation (Meanings.means-109 𝓡 W F) ⨾
+      equation (Meanings.means-110 𝓡 W F) ⨾
+      equation (Meanings.means-111 𝓡 W F) ⨾
+      equation (Meanings.means-120 𝓡 W F) ⨾
+      equation (Meanings.means-121 𝓡 W F) ⨾
+      equation (Meanings.means-122 𝓡 W F) ⨾
+      equation (Meanings.means-123 𝓡 W F) ⨾
+      equation (Meanings.means-124 𝓡 W F) ⨾
+      spreading-first (times-first 𝓡 W F on-bras) ⨾
+      spreading-second (times-second 𝓡 W F on-bras) ⨾
+      equation (Meanings.means-127 𝓡 W F) ⨾
+      equation (Meanings.means-128 𝓡 W F) ⨾
+      equation (Meanings.means-129 𝓡 W F) ⨾
+      equation (Meanings.means-130 𝓡 W F) ⨾
+      equation (Meanings.means-131 𝓡 W F) ⨾
+      equation (Meanings.means-140 𝓡 W F) ⨾
+      equation (Meanings.means-141 𝓡 W F) ⨾
+      equation (Meanings.means-142 𝓡 W F) ⨾
+      equation (Meanings.means-143 𝓡 W F) ⨾
+      spreading-first (times-first 𝓡 W F outers) ⨾
+      spreading-second (times-second 𝓡 W F outers) ⨾
+      equation (Meanings.means-150 𝓡 W F) ⨾
+      equation (Meanings.means-151 𝓡 W F) ⨾
+      equation (Meanings.means-152 𝓡 W F) ⨾
+      equation (Meanings.means-153 𝓡 W F) ⨾
+      equation (Meanings.means-154 𝓡 W F) ⨾
+      equation (Meanings.means-155 𝓡 W F) ⨾
+      equation (Meanings.means-156 𝓡 W F) ⨾
+      equation (Meanings.means-157 𝓡 W F) ⨾
+      spreading-first (times-first 𝓡 W F on-operators) ⨾
+      spreading-second (times-second 𝓡 W F on-operators) ⨾
+      equation (Meanings.means-160 𝓡 W F) ⨾
+      equation (Meanings.means-161 𝓡 W F) ⨾
+      equation (Meanings.means-162 𝓡 W F) ⨾
       swapping-means ⨾
       equation (means-180 𝓡 W F) ⨾
       equation (means-181 𝓡 W F) ⨾

@@ -16,12 +16,17 @@ use Rattle.term.specs.Heads.{Label, word, heads, labelled, reading, scalar-zero
 use Rattle.term.specs.Trees.{Tree, Forest, node, none, _▹_, _⧺_, count, words, Formed}
 use Rattle.term.proofs.Readings.{read-at}
 use Rattle.term.proofs.Parsing.{⧺-assoc, count-⧺, Formed*-⧺}
-use Rattle.types.specs.Sorts.{Sort, index, basis, scalar, ket, bra, operator, Context}
+use Rattle.types.specs.Sorts.{Sort, ket, bra, operator, Context}
 use Rattle.types.specs.Rules.{_⊢_∶_, WellFormed}
+use Rattle.types.proofs.Sound.{by-sort}
 use Rattle.rules.specs.Patterns.{Pattern, #_, first, second, _⟨⟩, _⟨_⟩, _⟨_∣_⟩}
-use Rattle.rules.specs.Table.{Condition, any, a-ket, a-bra, an-operator, unused, Which, child, child-i, Summand, plain, scaled, Rule, _⇒_▷_, spreading, removing, absorbing, merging, collecting, swapping, distributing}
-use Rattle.rules.specs.Instances.{Filled, hole, first-of, second-of, over-none, over-one, over-two, Holds, Chain, scalar-sums, scalar-products, sums, Loose, loose-chain, loose-delta, Sum, of-scalars, of-arrays, Picks, spread, summand, factor, Instance, equals, spreads, removes, absorbs, merges, collects, swaps, distributes}
-use Rattle.rules.specs.Rewrite.{nameless, isHead, sortOf, wanted, fill, match, holes, satisfied, filled, Opened, behind, open-at, spreadAt, removeAt, absorbAt, mergeAt, swapAt, distributeAt, Multiple, no-multiple, multiple, multipleOf, collected, collectBefore, collectAt, isChain, isLoose, place, usable, rewrite}
+use Rattle.rules.specs.Table.{Condition, any, a-ket, a-bra, an-operator, unused, Which, child, child-i, Summand, plain, scaled, Rule, _⇒_▷_, spreading, removing, absorbing, merging}
+use Rattle.rules.specs.Table.{collecting, swapping, distributing}
+use Rattle.rules.specs.Instances.{Filled, hole, first-of, second-of, over-none, over-one, over-two, Holds, ACSymbol, scalar-sums, scalar-products, sums, Loose, loose-chain}
+use Rattle.rules.specs.Instances.{loose-delta, Sum, of-scalars, of-arrays, Picks, spread, summand, factor, Instance, equals, spreads, removes, absorbs, merges, collects, swaps}
+use Rattle.rules.specs.Instances.{distributes}
+use Rattle.rules.specs.Rewrite.{nameless, isHead, sortOf, wanted, fill, match, holes, satisfied, filled, Opened, behind, open-at, spreadAt, removeAt, absorbAt, mergeAt, swapAt}
+use Rattle.rules.specs.Rewrite.{distributeAt, Multiple, no-multiple, multiple, multipleOf, collected, collectBefore, collectAt, isChain, isLoose, place, usable, rewrite}
 use Rattle.rules.proofs.Known.{either, is-head, head-is}
 use Rattle.rules.proofs.Good.{below, asked, flat, asksNone, ofWords, Good, both, all-three, fine, good}
 use Rattle.rules.proofs.Lines.{not-so, sort-is, fill-is, condition-is}
@@ -44,7 +49,7 @@ or-second : (a b : Bool) → b ≡ true → (a || b) ≡ true
 or-second true b e = refl
 or-second false b e = e
 
-is-chain : {l : Label} → Chain l → (n : ℕ) → isChain l n ≡ true
+is-chain : {l : Label} → ACSymbol l → (n : ℕ) → isChain l n ≡ true
 unfolding isChain
 is-chain scalar-sums n = rw (is-head scalar-sum n)
 is-chain scalar-products n = or-second (isHead scalar-sum scalar-product n) _ (rw (is-head scalar-product n))
@@ -122,30 +127,19 @@ unfolding filled
 filled-some Γ k r refused e = no-answer e
 filled-some Γ k r (some c) e = let b = cond-some (satisfied Γ k (holes c)) (some (fill Γ (holes c) r)) e in (c, refl, b .0, cc (b .1))
 
--- a sort that passes the test is of the kind
-ket-of : {Γ : Context} {t : Tree} (S : Sort) → Γ ⊢ t ∶ S → wanted a-ket S ≡ true → (σ : Tree) × (Γ ⊢ t ∶ ket σ)
-ket-of (index σ) d w = absurd (not-so w)
-ket-of (basis σ) d w = absurd (not-so w)
-ket-of scalar d w = absurd (not-so w)
-ket-of (ket σ) d w = (σ, d)
-ket-of (bra σ) d w = absurd (not-so w)
-ket-of (operator σ τ) d w = absurd (not-so w)
+-- a sort that passes the test is of the kind, and the others are refused
+no : {A B : Type 0} → A → false ≡ true → B
+no d w = absurd (not-so w)
 
-bra-of : {Γ : Context} {t : Tree} (S : Sort) → Γ ⊢ t ∶ S → wanted a-bra S ≡ true → (σ : Tree) × (Γ ⊢ t ∶ bra σ)
-bra-of (index σ) d w = absurd (not-so w)
-bra-of (basis σ) d w = absurd (not-so w)
-bra-of scalar d w = absurd (not-so w)
-bra-of (ket σ) d w = absurd (not-so w)
-bra-of (bra σ) d w = (σ, d)
-bra-of (operator σ τ) d w = absurd (not-so w)
+module _ {Γ : Context} {t : Tree} where
+  ket-of : (S : Sort) → Γ ⊢ t ∶ S → wanted a-ket S ≡ true → (σ : Tree) × (Γ ⊢ t ∶ ket σ)
+  ket-of = by-sort (λ S. Γ ⊢ t ∶ S → wanted a-ket S ≡ true → (σ : Tree) × (Γ ⊢ t ∶ ket σ)) (λ σ. no) (λ σ. no) no (λ σ d w. (σ, d)) (λ σ. no) (λ σ τ. no)
 
-operator-of : {Γ : Context} {t : Tree} (S : Sort) → Γ ⊢ t ∶ S → wanted an-operator S ≡ true → (σ : Tree) × (τ : Tree) × (Γ ⊢ t ∶ operator σ τ)
-operator-of (index σ) d w = absurd (not-so w)
-operator-of (basis σ) d w = absurd (not-so w)
-operator-of scalar d w = absurd (not-so w)
-operator-of (ket σ) d w = absurd (not-so w)
-operator-of (bra σ) d w = absurd (not-so w)
-operator-of (operator σ τ) d w = (σ, τ, d)
+  bra-of : (S : Sort) → Γ ⊢ t ∶ S → wanted a-bra S ≡ true → (σ : Tree) × (Γ ⊢ t ∶ bra σ)
+  bra-of = by-sort (λ S. Γ ⊢ t ∶ S → wanted a-bra S ≡ true → (σ : Tree) × (Γ ⊢ t ∶ bra σ)) (λ σ. no) (λ σ. no) no (λ σ. no) (λ σ d w. (σ, d)) (λ σ τ. no)
+
+  operator-of : (S : Sort) → Γ ⊢ t ∶ S → wanted an-operator S ≡ true → (σ : Tree) × (τ : Tree) × (Γ ⊢ t ∶ operator σ τ)
+  operator-of = by-sort (λ S. Γ ⊢ t ∶ S → wanted an-operator S ≡ true → (σ : Tree) × (τ : Tree) × (Γ ⊢ t ∶ operator σ τ)) (λ σ. no) (λ σ. no) no (λ σ. no) (λ σ. no) (λ σ τ d w. (σ, τ, d))
 
 -- Where a type is asked for, the holes are typed: so the right side is filled as the rule asks, and the condition holds
 module _ {Γ : Context} (W : WellFormed Γ) (c : List Tree) where
@@ -242,7 +236,7 @@ absorbs-sound h z e (there b (node c f) a k n) x =
     instance-at n z (rw (k, ← e, ← y, l)) (cc (t .1)) (absorbs b a)
 
 -- merging and swapping
-chain-of : (m : Label) (f : Forest) → Formed (node m f) → isChain m (count f) ≡ true → Chain m
+chain-of : (m : Label) (f : Forest) → Formed (node m f) → isChain m (count f) ≡ true → ACSymbol m
 unfolding isChain
 chain-of m f h =
     either (isHead scalar-sum m (count f)) _ (λ t. rw (← (head-is scalar-sum m f refl h t)) scalar-sums)
@@ -253,13 +247,13 @@ loose-of : (m : Label) (f : Forest) → Formed (node m f) → isLoose m (count f
 unfolding isLoose
 loose-of m f h = either (isHead delta m (count f)) _ (λ t. rw (← (head-is delta m f refl h t)) loose-delta) (λ t. loose-chain (chain-of m f h t))
 
-pub chain-nameless : {m : Label} → Chain m → nameless m ≡ true
+pub chain-nameless : {m : Label} → ACSymbol m → nameless m ≡ true
 chain-nameless scalar-sums = refl
 chain-nameless scalar-products = refl
 chain-nameless sums = refl
 
 merges-sound : {Γ : Context} {m : Label} {i j : ℕ} {f : Forest} {q : Tree} {o : Opened} → Formed (node m f)
-    → j ≡ 0 → Chain m → At f i o → mergeAt m o ≡ some q → Instance Γ merging i j (node m f) q
+    → j ≡ 0 → ACSymbol m → At f i o → mergeAt m o ≡ some q → Instance Γ merging i j (node m f) q
 unfolding mergeAt
 merges-sound h z c (too-far l) x = no-answer x
 merges-sound {m} h z c (there b (node d f) a k n) x =

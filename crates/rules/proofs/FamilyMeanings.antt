@@ -19,7 +19,7 @@ use Rattle.meaning.specs.Meaning.{times, stands*}
 use Rattle.meaning.specs.Sorted.{Fits}
 use Rattle.meaning.proofs.Shapes.{shape}
 use Rattle.rules.specs.Table.{Summand, plain, scaled}
-use Rattle.rules.specs.Instances.{Chain, sums as sum-chains, Loose, loose-chain, loose-delta, summand, factor}
+use Rattle.rules.specs.Instances.{ACSymbol, sums as sum-chains, Loose, loose-chain, loose-delta, summand, factor}
 use Rattle.rules.proofs.Forests.{arrays, Of, of-sum, of-product, of-kets, of-bras, of-operators, Fitting, scalar-zeros, scalar-ones, ket-zeros, bra-zeros, operator-zeros, around, links}
 use Rattle.rules.proofs.FamilyTypes.{merge-keeps, remove-keeps, one-pair, swap-keeps, collected-typed, collect-keeps}
 use Rattle.rules.proofs.Gatherings.{sums, products}
@@ -28,7 +28,7 @@ use Rattle.rules.proofs.Lines.{value}
 
 module _ {R : Type 0} {𝓐 : Arithmetic R} (𝓡 : StarSemiring 𝓐) {Γ : Context} {χ : Choice R} (W : WellFormed Γ) (F : Fits 𝓐 Γ χ) where
   -- a chain and what it becomes: the children come to the same
-  module _ {l : Label} {S : Sort} (c : Chain l) where
+  module _ {l : Label} {S : Sort} (c : ACSymbol l) where
     chain-means : (f g : Forest) → Γ ⊢ node l f ∶ S → Γ ⊢ node l g ∶ S
         → ((o : Of l S) → Γ ⊢* f ∶ S → let w = whole-of 𝓡 W F o in gather 𝓡 W F S (w .G) (w .shaped) f ≈ gather 𝓡 W F S (w .G) (w .shaped) g)
         → value Γ 𝓡 χ (node l f) ≈ value Γ 𝓡 χ (node l g)

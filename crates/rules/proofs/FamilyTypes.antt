@@ -13,7 +13,7 @@ use Rattle.types.specs.Inside.{binds}
 use Rattle.types.proofs.Indices.{later-same}
 use Rattle.types.proofs.Sound.{Each, each-more, node-of}
 use Rattle.rules.specs.Table.{Summand, plain, scaled}
-use Rattle.rules.specs.Instances.{Chain, scalar-sums, sums, scalar-products, Loose, loose-chain, loose-delta, Sum, of-scalars, of-arrays, spread, summand, factor}
+use Rattle.rules.specs.Instances.{ACSymbol, scalar-sums, sums, scalar-products, Loose, loose-chain, loose-delta, Sum, of-scalars, of-arrays, spread, summand, factor}
 use Rattle.rules.proofs.Forests.{Of, of-product, of-kets, of-bras, of-operators, every-⧺, around, chained, links}
 
 pub some-of : (f g : Forest) → 0 < count f → 0 < count (f ⧺ g)
@@ -37,14 +37,14 @@ delta-keeps : {Γ : Context} {S : Sort} (t u : Tree) → Γ ⊢ node delta (t �
 delta-keeps t u (sca-delta x y) = sca-delta y x
 
 module _ {Γ : Context} {S : Sort} where
-  pub merge-keeps : {l : Label} (b f a : Forest) → Chain l → Γ ⊢ node l (b ⧺ node l f ▹ a) ∶ S → Γ ⊢ node l (b ⧺ f ⧺ a) ∶ S
+  pub merge-keeps : {l : Label} (b f a : Forest) → ACSymbol l → Γ ⊢ node l (b ⧺ node l f ▹ a) ∶ S → Γ ⊢ node l (b ⧺ f ⧺ a) ∶ S
   merge-keeps {l} b f a c d =
       let k = links c d in
       let r = around b (node l f) a (k .every) in
       let m = links c (r .here) in
       chained (k .of) (some-behind b (f ⧺ a) (some-of f a (m .some))) (every-⧺ (r .front) (every-⧺ (m .every) (r .back)))
 
-  pub remove-keeps : {l : Label} (b : Forest) (t : Tree) (a : Forest) → Chain l → 0 < count (b ⧺ a) → Γ ⊢ node l (b ⧺ t ▹ a) ∶ S → Γ ⊢ node l (b ⧺ a) ∶ S
+  pub remove-keeps : {l : Label} (b : Forest) (t : Tree) (a : Forest) → ACSymbol l → 0 < count (b ⧺ a) → Γ ⊢ node l (b ⧺ t ▹ a) ∶ S → Γ ⊢ node l (b ⧺ a) ∶ S
   remove-keeps b t a c h d =
       let k = links c d in
       let r = around b t a (k .every) in
@@ -102,7 +102,7 @@ collect-keeps u v b m e p q x d =
     let new = collected-typed u v p q x (k .of) (r .here) (s .here) in
     chained (k .of) (some-behind b _ (some-behind m _ (some-behind e _ (omega arith)))) (every-⧺ (r .front) (every-⧺ (s .front) (every-⧺ (s .back) (every-more new every-none))))
 
-pub sum-chain : {l : Label} → Sum l → Chain l
+pub sum-chain : {l : Label} → Sum l → ACSymbol l
 sum-chain of-scalars = scalar-sums
 sum-chain of-arrays = sums
 
@@ -139,7 +139,7 @@ unfolding spread
 spread-typed b a again every-none = every-none
 spread-typed b a again (every-more d xs) = every-more (again _ d) (spread-typed b a again xs)
 
-pub spread-keeps : {Γ : Context} (W : WellFormed Γ) {l s r : Label} {S : Sort} → binds l ≡ false → (b f a : Forest) → Chain s → Of r S
+pub spread-keeps : {Γ : Context} (W : WellFormed Γ) {l s r : Label} {S : Sort} → binds l ≡ false → (b f a : Forest) → ACSymbol s → Of r S
     → Γ ⊢ node l (b ⧺ node s f ▹ a) ∶ S → Γ ⊢ node r (spread l b f a) ∶ S
 spread-keeps W {l} {s} z b f a c o d =
     let h = hole-of W z b (node s f) a d in

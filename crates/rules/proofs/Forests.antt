@@ -5,14 +5,14 @@ use Rattle.term.specs.Heads.{Label, scalar-zero, scalar-one, scalar-sum, scalar
 use Rattle.term.specs.Trees.{Tree, Forest, node, none, _▹_, _⧺_, count}
 use Rattle.types.specs.Sorts.{Sort, scalar, ket, bra, operator, Context}
 use Rattle.types.specs.Rules.{_⊢_∶_, _⊢*_∶_, every-none, every-more, sca-add, sca-mul, ket-add, bra-add, opt-add}
-use Rattle.rules.specs.Instances.{Chain, scalar-sums, scalar-products, sums}
+use Rattle.rules.specs.Instances.{ACSymbol, scalar-sums, scalar-products, sums}
 
 -- the chains that are sums
 pub data Sum : Label → Type 0 where
   scalars : Sum scalar-sum
   arrays : Sum add
 
-pub sum-is-chain : {l : Label} → Sum l → Chain l
+pub sum-is-chain : {l : Label} → Sum l → ACSymbol l
 sum-is-chain scalars = scalar-sums
 sum-is-chain arrays = sums
 
@@ -24,7 +24,7 @@ pub data Fitting : Label → Label → Type 0 where
   bra-zeros : Fitting add zero-bra
   operator-zeros : Fitting add zero-operator
 
-pub fitting-chain : {l c : Label} → Fitting l c → Chain l
+pub fitting-chain : {l c : Label} → Fitting l c → ACSymbol l
 fitting-chain scalar-zeros = scalar-sums
 fitting-chain scalar-ones = scalar-products
 fitting-chain ket-zeros = sums
@@ -78,7 +78,7 @@ pub record Links (Γ : Context) (l : Label) (f : Forest) (S : Sort) : Type 0 whe
   pub some : 0 < count f
   pub every : Γ ⊢* f ∶ S
 
-pub links : {Γ : Context} {l : Label} {f : Forest} {S : Sort} → Chain l → Γ ⊢ node l f ∶ S → Links Γ l f S
+pub links : {Γ : Context} {l : Label} {f : Forest} {S : Sort} → ACSymbol l → Γ ⊢ node l f ∶ S → Links Γ l f S
 unfolding count
 links scalar-sums (sca-add d xs) = record { of = of-sum; some = omega arith; every = every-more d xs }
 links scalar-products (sca-mul d xs) = record { of = of-product; some = omega arith; every = every-more d xs }

@@ -9,15 +9,18 @@ use borrow.Author.Tests.{lt-ltb, le-leb, leb-true}
 use lib.Arith.{digits-div, digits-mod}
 use lib.Dec.{eqb, leb, eqb·suc-zero}
 use lib.ListN.{length, getD}
+use Rattle.words.specs.Listed.{all}
+use Rattle.words.proofs.Listed.{all-++}
 use Rattle.term.specs.declared.terms.Names.{Names}
 use Rattle.term.specs.Heads.{Label, type-name, basis-name, variable, scalar-sum, scalar-product, add, bound-basis, unknown, labelled, heads, reading, word, read}
 use Rattle.term.specs.Trees.{Tree, Forest, node, none, _▹_, count, words, words*, Formed, Formed*}
 use Rattle.term.specs.Terms.{maxWords, maxChildren, maxNames, known, declared, allDeclared, IsTerm}
 use Rattle.term.proofs.Readings.{read-at, read-few}
-use Rattle.term.proofs.Names.{declared-++}
 use Rattle.types.specs.Sorts.{Sort, Context, countsOf}
 use Rattle.types.specs.Inside.{binds, behindFirst, later}
-use Rattle.types.specs.Rules.{_⊢_∶_, type-var, basis-var, term-var, sca-0, sca-1, sca-delta, sca-add, sca-mul, sca-conj, sca-dot, base-prod, pair-base, ket-0, ket-base, ket-adj, ket-scr, ket-add, ket-mulk, ket-tsr, bra-0, bra-base, bra-adj, bra-scr, bra-add, bra-mulb, bra-tsr, opt-0, opt-1, opt-adj, opt-scr, opt-add, opt-outer, opt-mulo, opt-tsr, bound-var, sum-over, WellFormed}
+use Rattle.types.specs.Rules.{_⊢_∶_, type-var, basis-var, term-var, sca-0, sca-1, sca-delta, sca-add, sca-mul, sca-conj, sca-dot, base-prod, pair-base, ket-0, ket-base, ket-adj, ket-scr}
+use Rattle.types.specs.Rules.{ket-add, ket-mulk, ket-tsr, bra-0, bra-base, bra-adj, bra-scr, bra-add, bra-mulb, bra-tsr, opt-0, opt-1, opt-adj, opt-scr, opt-add, opt-outer, opt-mulo}
+use Rattle.types.specs.Rules.{opt-tsr, bound-var, sum-over, WellFormed}
 use Rattle.types.proofs.Sound.{Row, each-none, each-more, node-of}
 use Rattle.types.proofs.Indices.{later-well}
 use Rattle.types.proofs.Strays.{below}
@@ -158,7 +161,7 @@ module _ (N : Names) where
     forest-formed W X x y (t ▹ f) (each-more a d) h = let e = few-more t f h in (tree-formed W x t a (e .0), forest-formed X X y y f d (e .1))
 
   mutual
-    unfolding words allDeclared
+    unfolding words all
 
     tree-declared : {Γ : Context} → WellFormed Γ → Declared N Γ → (t : Tree) {S : Sort} → Γ ⊢ t ∶ S → few t ≡ true → allDeclared N (words t) ≡ true
     tree-declared {Γ} W x (node l cs) d h =
@@ -169,32 +172,24 @@ module _ (N : Names) where
         → allDeclared N (words* f) ≡ true
     forest-declared W X x y none each-none h = refl
     forest-declared W X x y (t ▹ f) (each-more a d) h =
-        let e = few-more t f h in rw (declared-++ N (words t) (words* f), tree-declared W x t a (e .0)) (forest-declared X X y y f d (e .1))
+        let e = few-more t f h in rw (all-++ (declared N) (words t) (words* f), tree-declared W x t a (e .0)) (forest-declared X X y y f d (e .1))
 
-module _ {Γ : Context} (W : WellFormed Γ) (N : Names) (p : Γ .types ≤ N .types) (q : length (Γ .bases) ≤ N .bases) (r : length (Γ .variables) ≤ N .variables) where
-  -- every name in a typed tree is declared
-  pub typed-declared : {t : Tree} {S : Sort} → Γ ⊢ t ∶ S → few t ≡ true → allDeclared N (words t) ≡ true
-  typed-declared {t} d h = tree-declared N W (p, q, r) t d h
+-- with the context's own counts
+own-declared : (Γ : Context) → Declared (countsOf Γ) Γ
+own-declared Γ = (le-refl _, le-refl _, le-refl _)
 
-  -- a typed tree within the limits of a step is a term
-  pub within-term : {t : Tree} {S : Sort} → Γ ⊢ t ∶ S → within t ≡ true → IsTerm N t
-  unfolding within
-  within-term {t} d h =
-      let e = and-eq-true-iff (few t) _ .0 h in
-      let s = and-eq-true-iff (leb (length (words t)) maxWords) _ .0 (e .1) in
-      record { formed = tree-formed N W (p, q, r) t d (e .0); short = leb-true _ _ (s .0); shallow = leb-true _ _ (s .1); named = tree-declared N W (p, q, r) t d (e .0) }
-
--- ---- the same with the context's own counts
 module _ {Γ : Context} (W : WellFormed Γ) where
   -- a typed tree with few children at each node is of the table's form
   pub typed-formed : {t : Tree} {S : Sort} → Γ ⊢ t ∶ S → few t ≡ true → Formed t
-  typed-formed {t} d h = tree-formed (countsOf Γ) W (le-refl _, le-refl _, le-refl _) t d h
+  typed-formed {t} d h = tree-formed (countsOf Γ) W (own-declared Γ) t d h
 
-  pub typed-declared-own : {t : Tree} {S : Sort} → Γ ⊢ t ∶ S → few t ≡ true → allDeclared (countsOf Γ) (words t) ≡ true
-  typed-declared-own d h = typed-declared W (countsOf Γ) (le-refl _) (le-refl _) (le-refl _) d h
-
+  -- and within the limits of a step it is a term
   pub within-term-own : {t : Tree} {S : Sort} → Γ ⊢ t ∶ S → within t ≡ true → IsTerm (countsOf Γ) t
-  within-term-own d h = within-term W (countsOf Γ) (le-refl _) (le-refl _) (le-refl _) d h
+  unfolding within
+  within-term-own {t} d h =
+      let e = and-eq-true-iff (few t) _ .0 h in
+      let s = and-eq-true-iff (leb (length (words t)) maxWords) _ .0 (e .1) in
+      record { formed = typed-formed d (e .0); short = leb-true _ _ (s .0); shallow = leb-true _ _ (s .1); named = tree-declared (countsOf Γ) W (own-declared Γ) t d (e .0) }
 
 -- ---- and back: what the table reads has at most 255 children
 mutual

@@ -4,7 +4,7 @@ use mathlib.Core.List.{List}
 use Prim.Native.Nat.{ℕ, _<_}
 use native.Mathlib.Omega.{arith}
 use Rattle.algebra.specs.Semirings.{Arithmetic, StarSemiring}
-use Rattle.algebra.specs.Matrices.{Matrix, _≈_, Shape, number, scalar as scalar-matrix, add as add-matrix}
+use Rattle.algebra.specs.Matrices.{Matrix, _≈_, HasShape, number, scalar as scalar-matrix, add as add-matrix}
 use Rattle.algebra.proofs.Alike.{≈-refl, ≈-sym, ≈-trans, ≡→≈, number-≈}
 use Rattle.term.specs.Heads.{Label, scalar-sum, add}
 use Rattle.term.specs.Trees.{Tree, Forest, node, none, _▹_, _⧺_, count}
@@ -20,12 +20,12 @@ use Rattle.rules.proofs.Gatherings.{Gathering, sums, products, exchange
 use Rattle.rules.proofs.Lines.{value}
 
 module _ {R : Type 0} {𝓐 : Arithmetic R} (𝓡 : StarSemiring 𝓐) {Γ : Context} {χ : Choice R} (W : WellFormed Γ) (F : Fits 𝓐 Γ χ) where
-  module _ (S : Sort) {m n : ℕ} (G : Gathering R m n) (shaped : (t : Tree) → Γ ⊢ t ∶ S → Shape (value Γ 𝓡 χ t) m n) where
+  module _ (S : Sort) {m n : ℕ} (G : Gathering R m n) (shaped : (t : Tree) → Γ ⊢ t ∶ S → HasShape (value Γ 𝓡 χ t) m n) where
     unfoldable pub gather : Forest → Matrix R
     gather none = G .unit
     gather (t ▹ f) = G .op (value Γ 𝓡 χ t) (gather f)
 
-    pub gather-shape : {f : Forest} → Γ ⊢* f ∶ S → Shape (gather f) m n
+    pub gather-shape : {f : Forest} → Γ ⊢* f ∶ S → HasShape (gather f) m n
     unfolding gather
     gather-shape every-none = G .unit-shape
     gather-shape (every-more d xs) = G .op-shape _ _ (shaped _ d) (gather-shape xs)
@@ -46,10 +46,10 @@ module _ {R : Type 0} {𝓐 : Arithmetic R} (𝓡 : StarSemiring 𝓐) {Γ : Con
         (exchange G _ _ _ (shaped _ c) (shaped _ d) (gather-shape (every-⧺ xs ys)))
 
     -- either operand gives way to one that is alike
-    front-≈ : {A B : Matrix R} {f : Forest} → Shape A m n → Γ ⊢* f ∶ S → A ≈ B → G .op A (gather f) ≈ G .op B (gather f)
+    front-≈ : {A B : Matrix R} {f : Forest} → HasShape A m n → Γ ⊢* f ∶ S → A ≈ B → G .op A (gather f) ≈ G .op B (gather f)
     front-≈ a xs p = G .op-≈ _ _ _ _ a (gather-shape xs) p (≈-refl _)
 
-    back-≈ : {A B C : Matrix R} → Shape A m n → Shape B m n → B ≈ C → G .op A B ≈ G .op A C
+    back-≈ : {A B C : Matrix R} → HasShape A m n → HasShape B m n → B ≈ C → G .op A B ≈ G .op A C
     back-≈ a b p = G .op-≈ _ _ _ _ a b (≈-refl _) p
 
     pub gather-swap : {b a : Forest} {t u : Tree} → Γ ⊢* b ∶ S → Γ ⊢ t ∶ S → Γ ⊢ u ∶ S → Γ ⊢* a ∶ S → gather (b ⧺ t ▹ u ▹ a) ≈ gather (b ⧺ u ▹ t ▹ a)
@@ -93,14 +93,14 @@ module _ {R : Type 0} {𝓐 : Arithmetic R} (𝓡 : StarSemiring 𝓐) {Γ : Con
     pub m : ℕ
     pub n : ℕ
     pub G : Gathering R m n
-    pub shaped : (t : Tree) → Γ ⊢ t ∶ S → Shape (value Γ 𝓡 χ t) m n
+    pub shaped : (t : Tree) → Γ ⊢ t ∶ S → HasShape (value Γ 𝓡 χ t) m n
     pub whole : (f : Forest) → 0 < count f → Γ ⊢* f ∶ S → value Γ 𝓡 χ (node l f) ≈ gather S G shaped f
 
   abbrev all : Forest → List (Meaning R)
   all f = meanings 𝓐 (names 𝓐 Γ χ) f
 
-  module _ (S : Sort) {m n : ℕ} (shaped : (t : Tree) → Γ ⊢ t ∶ S → Shape (value Γ 𝓡 χ t) m n) where
-    pub sum-whole : {f : Forest} (A : Matrix R) → Shape A m n → Γ ⊢* f ∶ S → plus 𝓐 A (all f) ≈ sums 𝓡 m n .op A (gather S (sums 𝓡 m n) shaped f)
+  module _ (S : Sort) {m n : ℕ} (shaped : (t : Tree) → Γ ⊢ t ∶ S → HasShape (value Γ 𝓡 χ t) m n) where
+    pub sum-whole : {f : Forest} (A : Matrix R) → HasShape A m n → Γ ⊢* f ∶ S → plus 𝓐 A (all f) ≈ sums 𝓡 m n .op A (gather S (sums 𝓡 m n) shaped f)
     unfolding gather sums value
     sum-whole A a every-none = ≈-sym (sums 𝓡 m n .op-unit A a)
     sum-whole {f = t ▹ f} A a (every-more d xs) =
@@ -115,7 +115,7 @@ module _ {R : Type 0} {𝓐 : Arithmetic R} (𝓡 : StarSemiring 𝓐) {Γ : Con
         sum-of none h xs = absurd (omega arith)
         sum-of (t ▹ f) h (every-more d xs) = rw (total t f) (sum-whole (value Γ 𝓡 χ t) (shaped t d) xs)
 
-  pub scalar-shape : (t : Tree) → Γ ⊢ t ∶ scalar → Shape (value Γ 𝓡 χ t) 1 1
+  pub scalar-shape : (t : Tree) → Γ ⊢ t ∶ scalar → HasShape (value Γ 𝓡 χ t) 1 1
   unfolding value
   scalar-shape t d = shape 𝓐 W F d
 

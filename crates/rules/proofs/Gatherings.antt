@@ -2,7 +2,7 @@
 use mathlib.Core.Path.{refl}
 use Prim.Native.Nat.{ℕ}
 use Rattle.algebra.specs.Semirings.{Arithmetic, StarSemiring}
-use Rattle.algebra.specs.Matrices.{Matrix, _≈_, Shape, number, zeros, scalar, add}
+use Rattle.algebra.specs.Matrices.{Matrix, _≈_, HasShape, number, zeros, scalar, add}
 use Rattle.algebra.proofs.Alike.{≈-refl, ≈-sym, ≈-trans, ≡→≈, number-≈, add-≈}
 use Rattle.algebra.proofs.Linear.{add-assoc, add-comm, add-zeros}
 use Rattle.algebra.proofs.Scalars.{scalar-number}
@@ -11,12 +11,12 @@ use Rattle.algebra.proofs.Shapes.{same-rows, same-columns, shape-scalar, shape-
 pub record Gathering (R : Type 0) (m n : ℕ) : Type 0 where
   pub op : Matrix R → Matrix R → Matrix R
   pub unit : Matrix R
-  pub op-shape : (A B : Matrix R) → Shape A m n → Shape B m n → Shape (op A B) m n
-  pub unit-shape : Shape unit m n
-  pub op-≈ : (A A′ B B′ : Matrix R) → Shape A m n → Shape B m n → A ≈ A′ → B ≈ B′ → op A B ≈ op A′ B′
+  pub op-shape : (A B : Matrix R) → HasShape A m n → HasShape B m n → HasShape (op A B) m n
+  pub unit-shape : HasShape unit m n
+  pub op-≈ : (A A′ B B′ : Matrix R) → HasShape A m n → HasShape B m n → A ≈ A′ → B ≈ B′ → op A B ≈ op A′ B′
   pub assoc : (A B C : Matrix R) → op (op A B) C ≈ op A (op B C)
-  pub comm : (A B : Matrix R) → Shape A m n → Shape B m n → op A B ≈ op B A
-  pub op-unit : (A : Matrix R) → Shape A m n → op A unit ≈ A
+  pub comm : (A B : Matrix R) → HasShape A m n → HasShape B m n → op A B ≈ op B A
+  pub op-unit : (A : Matrix R) → HasShape A m n → op A unit ≈ A
 
 module _ {R : Type 0} {𝓐 : Arithmetic R} (𝓡 : StarSemiring 𝓐) where
   unfoldable pub sums : (m n : ℕ) → Gathering R m n
@@ -48,10 +48,10 @@ module _ {R : Type 0} {𝓐 : Arithmetic R} (𝓡 : StarSemiring 𝓐) where
 
 module _ {R : Type 0} {m n : ℕ} (G : Gathering R m n) where
   -- A ∗ (B ∗ C) = B ∗ (A ∗ C)
-  pub exchange : (A B C : Matrix R) → Shape A m n → Shape B m n → Shape C m n → G .op A (G .op B C) ≈ G .op B (G .op A C)
+  pub exchange : (A B C : Matrix R) → HasShape A m n → HasShape B m n → HasShape C m n → G .op A (G .op B C) ≈ G .op B (G .op A C)
   exchange A B C a b c =
       ≈-trans (≈-sym (G .assoc A B C))
       (≈-trans (G .op-≈ _ _ _ _ (G .op-shape A B a b) c (G .comm A B a b) (≈-refl C)) (G .assoc B A C))
 
-  pub unit-op : (A : Matrix R) → Shape A m n → G .op (G .unit) A ≈ A
+  pub unit-op : (A : Matrix R) → HasShape A m n → G .op (G .unit) A ≈ A
   unit-op A a = ≈-trans (G .comm (G .unit) A (G .unit-shape) a) (G .op-unit A a)

@@ -11,14 +11,16 @@ use Rattle.algebra.proofs.Linear as Linear
 use Rattle.algebra.proofs.Products as Products
 use Rattle.algebra.proofs.Scalars as Scalars
 use Rattle.algebra.proofs.Kronecker as Kronecker
-use Rattle.algebra.proofs.Combined.{zeros-mul, mul-zeros, zeros-kronecker, kronecker-zeros, number-scalar, scalar-≈, scalar-is, scale-0, adjoint-number, number-both, scale-both, kronecker-both, mixed-column, mixed-row, regroup, unit-inner, both-deltas}
+use Rattle.algebra.proofs.Combined.{zeros-mul, mul-zeros, zeros-kronecker, kronecker-zeros, number-scalar, scalar-≈, scalar-is, scale-0, adjoint-number, number-both, scale-both}
+use Rattle.algebra.proofs.Combined.{kronecker-both, mixed-column, mixed-row, regroup, unit-inner, both-deltas}
 use Rattle.term.specs.Trees.{Tree}
 use Rattle.types.specs.Sorts.{Sort, basis, ket, bra, operator, Context}
-use Rattle.types.specs.Rules.{_⊢_∶_, sca-0, sca-delta, sca-mul, sca-conj, sca-dot, pair-base, ket-0, ket-base, ket-adj, ket-scr, ket-mulk, ket-tsr, bra-0, bra-base, bra-adj, bra-scr, bra-mulb, bra-tsr, opt-0, opt-1, opt-adj, opt-scr, opt-outer, opt-mulo, opt-tsr, WellFormed}
+use Rattle.types.specs.Rules.{_⊢_∶_, sca-0, sca-delta, sca-mul, sca-conj, sca-dot, pair-base, ket-0, ket-base, ket-adj, ket-scr, ket-mulk, ket-tsr, bra-0, bra-base, bra-adj, bra-scr}
+use Rattle.types.specs.Rules.{bra-mulb, bra-tsr, opt-0, opt-1, opt-adj, opt-scr, opt-outer, opt-mulo, opt-tsr, WellFormed}
 use Rattle.types.proofs.Proper.{proper}
 use Rattle.meaning.specs.Choices.{Choice}
 use Rattle.meaning.specs.Meaning.{stands}
-use Rattle.meaning.specs.Sorted.{Fits, Proper}
+use Rattle.meaning.specs.Sorted.{Fits, ProperMeaning}
 use Rattle.meaning.proofs.Shapes.{shape}
 use Rattle.rules.specs.Patterns.{firstIndex, secondIndex}
 use Rattle.rules.specs.Rewrite.{sortOf}
@@ -28,7 +30,7 @@ module _ {R : Type 0} {𝓐 : Arithmetic R} (𝓡 : StarSemiring 𝓐) {Γ : Con
   open Arithmetic 𝓐 using (zero as 𝟘, one as 𝟙, conj)
 
   -- the shape of what a typed part stands for
-  abbrev its : {t : Tree} {S : Sort} → Γ ⊢ t ∶ S → Proper 𝓐 χ S (stands 𝓐 Γ χ t)
+  abbrev its : {t : Tree} {S : Sort} → Γ ⊢ t ∶ S → ProperMeaning 𝓐 χ S (stands 𝓐 Γ χ t)
   its = shape 𝓐 W F
 
   -- a basis lies below the dimension that it stands for

@@ -18,9 +18,9 @@ use Rattle.rules.specs.Instances.{Instance}
 use Rattle.rules.specs.Rewrite.{rewrite}
 use Rattle.rules.specs.Steps.{Step, Stepped, within, limited, atPart, atPlace, byRule, stepOf}
 use Rattle.rules.specs.Outcomes.{Outcome, good, no-rule, no-place, no-instance, too-big}
-use Rattle.rules.specs.Statements.{Decides}
+use Rattle.rules.specs.Statements.{DecidesStep}
 
-module _ (D : Decides) (Γ : Context) (W : WellFormed Γ) (S : Sort) (t : Tree) (s : Step) (formed : Formed t) (typed : Γ ⊢ t ∶ S) where
+module _ (D : DecidesStep) (Γ : Context) (W : WellFormed Γ) (S : Sort) (t : Tree) (s : Step) (formed : Formed t) (typed : Γ ⊢ t ∶ S) where
   abbrev Is : Stepped → Type 0
   Is o = Outcome Γ t s (o .code) (o .tree)
 

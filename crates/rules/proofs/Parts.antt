@@ -1,48 +1,24 @@
 -- What a rule rewrites is a term: no rule's left side is an index or a basis.
 use mathlib.Core.Path.{_≡_, refl}
-use mathlib.Core.Bool.{Bool, true, false}
+use mathlib.Core.Bool.{Bool, true, false, not, _&&_}
 use mathlib.Core.Option.{some}
 use Prim.Native.Nat.{ℕ}
-use Rattle.term.specs.Heads.{Label, type-name, basis-name, variable, index-product, pair, scalar-zero, scalar-one, scalar-sum, scalar-product, conjugate, delta, dot, zero-ket, zero-bra, zero-operator, identity, basis-ket, basis-bra, adjoint, scale, add, tensor, mulk, mulb, outer, mulo, big-sum, bound-basis}
+use lib.Dec.{eqb, ltb}
+use Rattle.term.specs.Heads.{Label, headOf}
 use Rattle.term.specs.Trees.{Tree, Forest, node}
 use Rattle.types.specs.Sorts.{Sort, index, basis, scalar, ket, bra, operator, IsType, Context}
 use Rattle.types.specs.Rules.{_⊢_∶_, type-var, basis-var, term-var, base-prod, pair-base, bound-var, sum-over, WellFormed}
 use Rattle.rules.specs.Patterns.{Pattern, #_, first, second, _⟨⟩, _⟨_⟩, _⟨_∣_⟩}
 use Rattle.rules.specs.Table.{Rule, _⇒_▷_, spreading, removing, absorbing, merging, collecting, swapping, distributing, ruleOf}
-use Rattle.rules.specs.Instances.{Chain, scalar-sums, scalar-products, sums, Loose, loose-chain, loose-delta, Filled, hole, first-of, second-of, over-none, over-one, over-two, Instance, equals, spreads, removes, absorbs, merges, collects, swaps, distributes}
+use Rattle.rules.specs.Instances.{ACSymbol, scalar-sums, scalar-products, sums, Loose, loose-chain, loose-delta, Filled, hole, first-of, second-of, over-none, over-one, over-two}
+use Rattle.rules.specs.Instances.{Instance, equals, spreads, removes, absorbs, merges, collects, swaps, distributes}
 use Rattle.rules.proofs.Every.{rule-passes}
 use Rattle.rules.proofs.Lines.{not-so}
 
--- heads of indices and bases
-abbrev term-head : Label → Bool
-term-head (type-name a) = false
-term-head (basis-name a) = false
-term-head (variable a) = true
-term-head index-product = false
-term-head pair = false
-term-head scalar-zero = true
-term-head scalar-one = true
-term-head scalar-sum = true
-term-head scalar-product = true
-term-head conjugate = true
-term-head delta = true
-term-head dot = true
-term-head zero-ket = true
-term-head zero-bra = true
-term-head zero-operator = true
-term-head identity = true
-term-head basis-ket = true
-term-head basis-bra = true
-term-head adjoint = true
-term-head scale = true
-term-head add = true
-term-head tensor = true
-term-head mulk = true
-term-head mulb = true
-term-head outer = true
-term-head mulo = true
-term-head big-sum = true
-term-head (bound-basis a) = false
+-- 1 to 4 are heads of indices and bases, and so is 28
+unfoldable term-head : Label → Bool
+unfolding headOf
+term-head l = let h = headOf l 0 .0 in ltb 4 h && not (eqb h 28)
 
 abbrev left-head : Pattern → Bool
 left-head (# k) = false
@@ -67,6 +43,7 @@ Terms r = rewrites-terms r ≡ true
 
 -- a part of a term's head is no index and no basis
 type-of : {Γ : Context} (W : WellFormed Γ) {l : Label} {f : Forest} (S : Sort) → term-head l ≡ true → Γ ⊢ node l f ∶ S → IsType S
+unfolding term-head
 type-of W (index σ) h (type-var x) = not-so h
 type-of W (index σ) h (term-var e) = W .variable-type _ _ e .0
 type-of W (index σ) h (base-prod a b x) = not-so h
@@ -81,12 +58,14 @@ type-of W (ket σ) h d = tt
 type-of W (bra σ) h d = tt
 type-of W (operator σ τ) h d = tt
 
-chain-head : {l : Label} → Chain l → term-head l ≡ true
+chain-head : {l : Label} → ACSymbol l → term-head l ≡ true
+unfolding term-head
 chain-head scalar-sums = refl
 chain-head scalar-products = refl
 chain-head sums = refl
 
 loose-head : {l : Label} → Loose l → term-head l ≡ true
+unfolding term-head
 loose-head (loose-chain c) = chain-head c
 loose-head loose-delta = refl
 
@@ -100,6 +79,7 @@ module _ {Γ : Context} (W : WellFormed Γ) {S : Sort} where
   left-type h (over-two a b) d = type-of W S h d
 
   instance-type : {r : Rule} {i j : ℕ} {p q : Tree} → Terms r → Instance Γ r i j p q → Γ ⊢ p ∶ S → IsType S
+  unfolding term-head
   instance-type h (equals θ a b w) d = left-type h a d
   instance-type h (spreads b f a x) d = type-of W S h d
   instance-type h (removes b f a x) d = type-of W S h d
@@ -110,4 +90,5 @@ module _ {Γ : Context} (W : WellFormed Γ) {S : Sort} where
   instance-type h (distributes s f x) d = type-of W S refl d
 
   pub rewritten-type : (n : ℕ) {r : Rule} {i j : ℕ} {p q : Tree} → ruleOf n ≡ some r → Instance Γ r i j p q → Γ ⊢ p ∶ S → IsType S
+  unfolding term-head
   rewritten-type n {r} e x d = instance-type (rule-passes rewrites-terms refl n r e) x d

@@ -5,14 +5,14 @@ use Rattle.types.specs.Sorts.{Sort, Context, _⊠_, Short}
 use Rattle.types.specs.Rules.{_⊢_∶_, base-prod, WellFormed}
 use Rattle.types.proofs.Indices.{index-is}
 use Rattle.types.proofs.Replace.{part-typed, inside-well}
-use Rattle.rules.specs.Statements.{Decides, AtMostOne, KeepsType, KeepsMeaning}
+use Rattle.rules.specs.Statements.{DecidesStep, AtMostOne, KeepsType, KeepsMeaning}
 use Rattle.rules.proofs.AllTypes.{rule-keeps}
 use Rattle.rules.proofs.AllMeanings.{rule-means}
 use Rattle.rules.proofs.Decided.{complete, sound, unique}
 use Rattle.rules.proofs.Good.{every-good}
 use Rattle.rules.proofs.Lines.{value}
 
-pub decides : Decides
+pub decides : DecidesStep
 decides Γ W n r e i j p q f S d = let g = every-good n r e in (sound W r p g f d, complete W g)
 
 pub at-most-one : AtMostOne

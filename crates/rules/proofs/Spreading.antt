@@ -3,7 +3,7 @@ use mathlib.Core.Path.{_≡_, refl, ap}
 use Prim.Native.Nat.{_<_}
 use native.Mathlib.Omega.{arith}
 use Rattle.algebra.specs.Semirings.{Arithmetic, StarSemiring}
-use Rattle.algebra.specs.Matrices.{Matrix, _≈_, Shape, number, scalar as scalar-matrix, scale as scale-matrix, mul, adjoint as adjoint-matrix, kronecker}
+use Rattle.algebra.specs.Matrices.{Matrix, _≈_, HasShape, number, scalar as scalar-matrix, scale as scale-matrix, mul, adjoint as adjoint-matrix, kronecker}
 use Rattle.algebra.proofs.Semirings.{add-mul}
 use Rattle.algebra.proofs.Alike.{≈-refl, ≈-sym, ≈-trans, ≡→≈, number-≈}
 use Rattle.algebra.proofs.Shapes.{shape-scalar}
@@ -11,9 +11,10 @@ use Rattle.term.specs.Heads.{Label, scalar-sum, scalar-product, conjugate, dot,
 use Rattle.term.specs.Trees.{Tree, Forest, node, none, _▹_, _⧺_, count}
 use Rattle.types.specs.Sorts.{Sort, Context}
 use Rattle.types.specs.Inside.{binds}
-use Rattle.types.specs.Rules.{_⊢_∶_, _⊢*_∶_, every-none, every-more, sca-conj, sca-dot, ket-adj, ket-scr, ket-mulk, ket-tsr, bra-adj, bra-scr, bra-mulb, bra-tsr, opt-adj, opt-scr, opt-outer, opt-mulo, opt-tsr, WellFormed}
+use Rattle.types.specs.Rules.{_⊢_∶_, _⊢*_∶_, every-none, every-more, sca-conj, sca-dot, ket-adj, ket-scr, ket-mulk, ket-tsr, bra-adj, bra-scr, bra-mulb, bra-tsr, opt-adj, opt-scr}
+use Rattle.types.specs.Rules.{opt-outer, opt-mulo, opt-tsr, WellFormed}
 use Rattle.meaning.specs.Choices.{Choice}
-use Rattle.meaning.specs.Meaning.{times, dimension, stands, stands*}
+use Rattle.meaning.specs.Meaning.{times, dimension, stands*}
 use Rattle.meaning.specs.Sorted.{Fits}
 use Rattle.meaning.proofs.Shapes.{shape}
 use Rattle.rules.specs.Instances.{scalar-sums, scalar-products, spread}
@@ -25,12 +26,20 @@ use Rattle.rules.proofs.Gatherings.{products}
 use Rattle.rules.proofs.Gathered.{gather, gather-shape, sum-chain, Whole, whole-of, op-add}
 use Rattle.rules.proofs.Lines.{value}
 
+-- the five heads that multiply matrices, each with the head of what it makes of a sum
+pub data Times : Label → Label → Type 0 where
+  dots : Times dot scalar-sum
+  on-kets : Times mulk add
+  on-bras : Times mulb add
+  outers : Times outer add
+  on-operators : Times mulo add
+
 module _ {R : Type 0} {𝓐 : Arithmetic R} (𝓡 : StarSemiring 𝓐) {Γ : Context} {χ : Choice R} (W : WellFormed Γ) (F : Fits 𝓐 Γ χ) where
   -- from one chain's operation to another's
   pub record Carries {s r : Label} {T S : Sort} (w : Whole 𝓡 W F s T) (v : Whole 𝓡 W F r S) (Φ : Matrix R → Matrix R) : Type 0 where
-    pub shaped : (A : Matrix R) → Shape A (w .m) (w .n) → Shape (Φ A) (v .m) (v .n)
-    pub alike : (A B : Matrix R) → Shape A (w .m) (w .n) → A ≈ B → Φ A ≈ Φ B
-    pub carries : (A B : Matrix R) → Shape A (w .m) (w .n) → Shape B (w .m) (w .n) → Φ (w .G .op A B) ≈ v .G .op (Φ A) (Φ B)
+    pub shaped : (A : Matrix R) → HasShape A (w .m) (w .n) → HasShape (Φ A) (v .m) (v .n)
+    pub alike : (A B : Matrix R) → HasShape A (w .m) (w .n) → A ≈ B → Φ A ≈ Φ B
+    pub carries : (A B : Matrix R) → HasShape A (w .m) (w .n) → HasShape B (w .m) (w .n) → Φ (w .G .op A B) ≈ v .G .op (Φ A) (Φ B)
 
   module _ (l : Label) {s r : Label} {T S : Sort} (b a : Forest) (w : Whole 𝓡 W F s T) (v : Whole 𝓡 W F r S) (Φ : Matrix R → Matrix R)
       (is : (u : Tree) → value Γ 𝓡 χ (node l (b ⧺ u ▹ a)) ≡ Φ (value Γ 𝓡 χ u)) (C : Carries w v Φ) where
@@ -59,7 +68,7 @@ module _ {R : Type 0} {𝓐 : Arithmetic R} (𝓡 : StarSemiring 𝓐) {Γ : Con
       → (let w = whole-of 𝓡 W F o in let v = whole-of 𝓡 W F q in Additive 𝓡 (w .m) (w .n) (v .m) (v .n) Φ) → Carries (whole-of 𝓡 W F o) (whole-of 𝓡 W F q) Φ
   additive x o y q Φ A = record { shaped = A .shaped; alike = A .alike; carries = rw (op-add 𝓡 W F x o, op-add 𝓡 W F y q) (A .adds) }
 
-  -- a head that is additive in shape 𝓐 W F child, a sum
+  -- a head that is additive in a child, a sum
   sum-spreads : (l : Label) {s r : Label} {T S : Sort} (b f a : Forest) → Sum s → (o : Of s T) → Sum r → (q : Of r S) → (Φ : Matrix R → Matrix R)
       → ((u : Tree) → value Γ 𝓡 χ (node l (b ⧺ u ▹ a)) ≡ Φ (value Γ 𝓡 χ u)) → ((u : Tree) → Γ ⊢ u ∶ T → Γ ⊢ node l (b ⧺ u ▹ a) ∶ S)
       → (let w = whole-of 𝓡 W F o in let v = whole-of 𝓡 W F q in Additive 𝓡 (w .m) (w .n) (v .m) (v .n) Φ)
@@ -75,49 +84,26 @@ module _ {R : Type 0} {𝓐 : Arithmetic R} (𝓡 : StarSemiring 𝓐) {Γ : Con
   abbrev pub Second : Label → Label → Label → Type 0
   Second l s r = (S : Sort) (t : Tree) (f a : Forest) → Γ ⊢ node l (t ▹ node s f ▹ a) ∶ S → value Γ 𝓡 χ (node l (t ▹ node s f ▹ a)) ≈ value Γ 𝓡 χ (node r (spread l (t ▹ none) f a))
 
-  pub dot-first : First dot add scalar-sum
+  pub times-first : {l r : Label} → Times l r → First l add r
   unfolding value whole-of sum-chain _⧺_
-  dot-first S f a (sca-dot x y) = sum-spreads dot none f a arrays of-bras scalars of-sum (λ A. mul 𝓐 A _) (λ u. refl) (λ u e. sca-dot e y) (times-right 𝓡 _ (shape 𝓐 W F y)) x
+  times-first dots S f a (sca-dot x y) = sum-spreads dot none f a arrays of-bras scalars of-sum (λ A. mul 𝓐 A _) (λ u. refl) (λ u e. sca-dot e y) (times-right 𝓡 _ (shape 𝓐 W F y)) x
+  times-first on-kets S f a (ket-mulk x y) = sum-spreads mulk none f a arrays of-operators arrays of-kets (λ A. mul 𝓐 A _) (λ u. refl) (λ u e. ket-mulk e y) (times-right 𝓡 _ (shape 𝓐 W F y)) x
+  times-first on-bras S f a (bra-mulb x y) = sum-spreads mulb none f a arrays of-bras arrays of-bras (λ A. mul 𝓐 A _) (λ u. refl) (λ u e. bra-mulb e y) (times-right 𝓡 _ (shape 𝓐 W F y)) x
+  times-first outers S f a (opt-outer x y) = sum-spreads outer none f a arrays of-kets arrays of-operators (λ A. mul 𝓐 A _) (λ u. refl) (λ u e. opt-outer e y) (times-right 𝓡 _ (shape 𝓐 W F y)) x
+  times-first on-operators S f a (opt-mulo x y) =
+      sum-spreads mulo none f a arrays of-operators arrays of-operators (λ A. mul 𝓐 A _) (λ u. refl) (λ u e. opt-mulo e y) (times-right 𝓡 _ (shape 𝓐 W F y)) x
 
-  pub dot-second : Second dot add scalar-sum
+  pub times-second : {l r : Label} → Times l r → Second l add r
   unfolding value whole-of sum-chain _⧺_
-  dot-second S t f a (sca-dot x y) =
+  times-second dots S t f a (sca-dot x y) =
       sum-spreads dot (t ▹ none) f a arrays of-kets scalars of-sum (λ A. mul 𝓐 _ A) (λ u. refl) (λ u e. sca-dot x e) (times-left 𝓡 _ (shape 𝓐 W F x)) y
-
-  pub mulk-first : First mulk add add
-  unfolding value whole-of sum-chain _⧺_
-  mulk-first S f a (ket-mulk x y) = sum-spreads mulk none f a arrays of-operators arrays of-kets (λ A. mul 𝓐 A _) (λ u. refl) (λ u e. ket-mulk e y) (times-right 𝓡 _ (shape 𝓐 W F y)) x
-
-  pub mulk-second : Second mulk add add
-  unfolding value whole-of sum-chain _⧺_
-  mulk-second S t f a (ket-mulk x y) =
+  times-second on-kets S t f a (ket-mulk x y) =
       sum-spreads mulk (t ▹ none) f a arrays of-kets arrays of-kets (λ A. mul 𝓐 _ A) (λ u. refl) (λ u e. ket-mulk x e) (times-left 𝓡 _ (shape 𝓐 W F x)) y
-
-  pub mulb-first : First mulb add add
-  unfolding value whole-of sum-chain _⧺_
-  mulb-first S f a (bra-mulb x y) = sum-spreads mulb none f a arrays of-bras arrays of-bras (λ A. mul 𝓐 A _) (λ u. refl) (λ u e. bra-mulb e y) (times-right 𝓡 _ (shape 𝓐 W F y)) x
-
-  pub mulb-second : Second mulb add add
-  unfolding value whole-of sum-chain _⧺_
-  mulb-second S t f a (bra-mulb x y) =
+  times-second on-bras S t f a (bra-mulb x y) =
       sum-spreads mulb (t ▹ none) f a arrays of-operators arrays of-bras (λ A. mul 𝓐 _ A) (λ u. refl) (λ u e. bra-mulb x e) (times-left 𝓡 _ (shape 𝓐 W F x)) y
-
-  pub outer-first : First outer add add
-  unfolding value whole-of sum-chain _⧺_
-  outer-first S f a (opt-outer x y) = sum-spreads outer none f a arrays of-kets arrays of-operators (λ A. mul 𝓐 A _) (λ u. refl) (λ u e. opt-outer e y) (times-right 𝓡 _ (shape 𝓐 W F y)) x
-
-  pub outer-second : Second outer add add
-  unfolding value whole-of sum-chain _⧺_
-  outer-second S t f a (opt-outer x y) =
+  times-second outers S t f a (opt-outer x y) =
       sum-spreads outer (t ▹ none) f a arrays of-bras arrays of-operators (λ A. mul 𝓐 _ A) (λ u. refl) (λ u e. opt-outer x e) (times-left 𝓡 _ (shape 𝓐 W F x)) y
-
-  pub mulo-first : First mulo add add
-  unfolding value whole-of sum-chain _⧺_
-  mulo-first S f a (opt-mulo x y) = sum-spreads mulo none f a arrays of-operators arrays of-operators (λ A. mul 𝓐 A _) (λ u. refl) (λ u e. opt-mulo e y) (times-right 𝓡 _ (shape 𝓐 W F y)) x
-
-  pub mulo-second : Second mulo add add
-  unfolding value whole-of sum-chain _⧺_
-  mulo-second S t f a (opt-mulo x y) =
+  times-second on-operators S t f a (opt-mulo x y) =
       sum-spreads mulo (t ▹ none) f a arrays of-operators arrays of-operators (λ A. mul 𝓐 _ A) (λ u. refl) (λ u e. opt-mulo x e) (times-left 𝓡 _ (shape 𝓐 W F x)) y
 
   pub scale-second : Second scale add add
@@ -134,15 +120,21 @@ module _ {R : Type 0} {𝓐 : Arithmetic R} (𝓡 : StarSemiring 𝓐) {Γ : Con
 
   pub tensor-first : First tensor add add
   unfolding value whole-of sum-chain _⧺_ dimension
-  tensor-first S f a (ket-tsr {L} x y h) = sum-spreads tensor none f a arrays of-kets arrays of-kets (λ A. kronecker 𝓐 A (value Γ 𝓡 χ L)) (λ u. refl) (λ u e. ket-tsr e y h) (kronecker-right 𝓡 _ (shape 𝓐 W F y)) x
-  tensor-first S f a (bra-tsr {C} x y h) = sum-spreads tensor none f a arrays of-bras arrays of-bras (λ A. kronecker 𝓐 A (value Γ 𝓡 χ C)) (λ u. refl) (λ u e. bra-tsr e y h) (kronecker-right 𝓡 _ (shape 𝓐 W F y)) x
-  tensor-first S f a (opt-tsr {P} x y h k) = sum-spreads tensor none f a arrays of-operators arrays of-operators (λ A. kronecker 𝓐 A (value Γ 𝓡 χ P)) (λ u. refl) (λ u e. opt-tsr e y h k) (kronecker-right 𝓡 _ (shape 𝓐 W F y)) x
+  tensor-first S f a (ket-tsr {L} x y h) =
+      sum-spreads tensor none f a arrays of-kets arrays of-kets (λ A. kronecker 𝓐 A (value Γ 𝓡 χ L)) (λ u. refl) (λ u e. ket-tsr e y h) (kronecker-right 𝓡 _ (shape 𝓐 W F y)) x
+  tensor-first S f a (bra-tsr {C} x y h) =
+      sum-spreads tensor none f a arrays of-bras arrays of-bras (λ A. kronecker 𝓐 A (value Γ 𝓡 χ C)) (λ u. refl) (λ u e. bra-tsr e y h) (kronecker-right 𝓡 _ (shape 𝓐 W F y)) x
+  tensor-first S f a (opt-tsr {P} x y h k) =
+      sum-spreads tensor none f a arrays of-operators arrays of-operators (λ A. kronecker 𝓐 A (value Γ 𝓡 χ P)) (λ u. refl) (λ u e. opt-tsr e y h k) (kronecker-right 𝓡 _ (shape 𝓐 W F y)) x
 
   pub tensor-second : Second tensor add add
   unfolding value whole-of sum-chain _⧺_ dimension
-  tensor-second S t f a (ket-tsr x y h) = sum-spreads tensor (t ▹ none) f a arrays of-kets arrays of-kets (λ A. kronecker 𝓐 (value Γ 𝓡 χ t) A) (λ u. refl) (λ u e. ket-tsr x e h) (kronecker-left 𝓡 _ (shape 𝓐 W F x)) y
-  tensor-second S t f a (bra-tsr x y h) = sum-spreads tensor (t ▹ none) f a arrays of-bras arrays of-bras (λ A. kronecker 𝓐 (value Γ 𝓡 χ t) A) (λ u. refl) (λ u e. bra-tsr x e h) (kronecker-left 𝓡 _ (shape 𝓐 W F x)) y
-  tensor-second S t f a (opt-tsr x y h k) = sum-spreads tensor (t ▹ none) f a arrays of-operators arrays of-operators (λ A. kronecker 𝓐 (value Γ 𝓡 χ t) A) (λ u. refl) (λ u e. opt-tsr x e h k) (kronecker-left 𝓡 _ (shape 𝓐 W F x)) y
+  tensor-second S t f a (ket-tsr x y h) =
+      sum-spreads tensor (t ▹ none) f a arrays of-kets arrays of-kets (λ A. kronecker 𝓐 (value Γ 𝓡 χ t) A) (λ u. refl) (λ u e. ket-tsr x e h) (kronecker-left 𝓡 _ (shape 𝓐 W F x)) y
+  tensor-second S t f a (bra-tsr x y h) =
+      sum-spreads tensor (t ▹ none) f a arrays of-bras arrays of-bras (λ A. kronecker 𝓐 (value Γ 𝓡 χ t) A) (λ u. refl) (λ u e. bra-tsr x e h) (kronecker-left 𝓡 _ (shape 𝓐 W F x)) y
+  tensor-second S t f a (opt-tsr x y h k) =
+      sum-spreads tensor (t ▹ none) f a arrays of-operators arrays of-operators (λ A. kronecker 𝓐 (value Γ 𝓡 χ t) A) (λ u. refl) (λ u e. opt-tsr x e h k) (kronecker-left 𝓡 _ (shape 𝓐 W F x)) y
 
   pub conjugate-sum : First conjugate scalar-sum scalar-sum
   unfolding value whole-of sum-chain _⧺_

@@ -85,16 +85,16 @@ module _ {R : Type 0} {𝓐 : Arithmetic R} (𝓡 : StarSemiring 𝓐) where
       same-trans S _ _ _ (step-keeps-meaning W F S t d s) (steps-keep-meaning Γ χ W F S _ (step-keeps-type Γ W S t d s) ss)
 
   -- ---- runs
-  record Kept (Γ : Context) (χ : Choice R) (S : Sort) (p q : Sides) : Type 0 where
+  record SidesKept (Γ : Context) (χ : Choice R) (S : Sort) (p q : Sides) : Type 0 where
     left-typed : Typed Γ S (q .left)
     right-typed : Typed Γ S (q .right)
     left-same : Same S (stands 𝓐 Γ χ (p .left)) (stands 𝓐 Γ χ (q .left))
     right-same : Same S (stands 𝓐 Γ χ (p .right)) (stands 𝓐 Γ χ (q .right))
 
-  kept-refl : {Γ : Context} {χ : Choice R} {S : Sort} {p : Sides} → Typed Γ S (p .left) → Typed Γ S (p .right) → Kept Γ χ S p p
+  kept-refl : {Γ : Context} {χ : Choice R} {S : Sort} {p : Sides} → Typed Γ S (p .left) → Typed Γ S (p .right) → SidesKept Γ χ S p p
   kept-refl {S} l r = record { left-typed = l; right-typed = r; left-same = same-refl S _; right-same = same-refl S _ }
 
-  kept-trans : {Γ : Context} {χ : Choice R} {S : Sort} {p q o : Sides} → Kept Γ χ S p q → Kept Γ χ S q o → Kept Γ χ S p o
+  kept-trans : {Γ : Context} {χ : Choice R} {S : Sort} {p q o : Sides} → SidesKept Γ χ S p q → SidesKept Γ χ S q o → SidesKept Γ χ S p o
   kept-trans {S} a b =
       record {
         left-typed = b .left-typed;
@@ -105,21 +105,21 @@ module _ {R : Type 0} {𝓐 : Arithmetic R} (𝓡 : StarSemiring 𝓐) where
 
   -- a step on a side
   move-kept : {Γ : Context} {χ : Choice R} (W : WellFormed Γ) (F : Fits 𝓐 Γ χ) {S : Sort} (p : Sides) (side : Side) (s : Step)
-      → Typed Γ S (p .left) → Typed Γ S (p .right) → Kept Γ χ S p (put side (stepOf Γ (chosen side p) s .tree) p)
+      → Typed Γ S (p .left) → Typed Γ S (p .right) → SidesKept Γ χ S p (put side (stepOf Γ (chosen side p) s .tree) p)
   move-kept {Γ} W F {S} p Left s l r =
       record { left-typed = step-keeps-type Γ W S _ l s; right-typed = r; left-same = step-keeps-meaning W F S _ l s; right-same = same-refl S _ }
   move-kept {Γ} W F {S} p Right s l r =
       record { left-typed = l; right-typed = step-keeps-type Γ W S _ r s; left-same = same-refl S _; right-same = step-keeps-meaning W F S _ r s }
 
   run-kept : {Γ : Context} {χ : Choice R} (W : WellFormed Γ) (F : Fits 𝓐 Γ χ) {S : Sort} (p : Sides) → Typed Γ S (p .left) → Typed Γ S (p .right) → (n : ℕ) (ms : List Move)
-      → Kept Γ χ S p (runOf Γ n p ms .sides)
+      → SidesKept Γ χ S p (runOf Γ n p ms .sides)
   unfolding runOf
   run-kept W F p l r n [] = kept-refl l r
   run-kept {Γ} {χ} W F {S} p l r n (m ∷ ms) =
       let k = move-kept W F p (m .side) (m .step) l r in
       by-code (eqb (stepOf Γ (chosen (m .side) p) (m .step) .code) 0) _ _ (kept-trans k (run-kept W F _ (k .left-typed) (k .right-typed) (n + 1) ms)) (kept-refl l r)
     where
-      by-code : (b : Bool) (x y : Run) → Kept Γ χ S p (x .sides) → Kept Γ χ S p (y .sides) → Kept Γ χ S p (cond b x y .sides)
+      by-code : (b : Bool) (x y : Run) → SidesKept Γ χ S p (x .sides) → SidesKept Γ χ S p (y .sides) → SidesKept Γ χ S p (cond b x y .sides)
       by-code true x y a c = a
       by-code false x y a c = c
 

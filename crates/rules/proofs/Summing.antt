@@ -8,19 +8,19 @@ use native.Mathlib.Omega.{arith}
 use lib.Dec.{eqb}
 use lib.ListN.{getElem?}
 use Rattle.algebra.specs.Semirings.{Arithmetic, StarSemiring}
-use Rattle.algebra.specs.Matrices.{Matrix, _≈_, Shape, kronecker-delta, identity, scalar as scalar-matrix, sum-matrices}
+use Rattle.algebra.specs.Matrices.{Matrix, _≈_, HasShape, kronecker-delta, identity, scalar as scalar-matrix, sum-matrices}
 use Rattle.algebra.proofs.Alike.{≈-refl, ≡→≈, ≈-trans, add-≈}
 use Rattle.algebra.proofs.Ranges.{sum-zeros, sum-sums, sum-projectors, sum-deltas}
 use Rattle.algebra.proofs.Shapes.{same-rows, same-columns, shape-sum-matrices}
 use Rattle.words.specs.Listed.{lacks}
 use Rattle.term.specs.Heads.{Label, scalar-zero, scalar-sum, add, delta, basis-ket, basis-bra, outer, big-sum, bound-basis}
 use Rattle.term.specs.Trees.{Tree, Forest, node, none, _▹_, _⧺_, words}
-use Rattle.types.specs.Sorts.{Sort, index, basis, scalar, ket, bra, operator, Context, bind}
+use Rattle.types.specs.Sorts.{Sort, basis, scalar, ket, bra, operator, Context, bind}
 use Rattle.types.specs.Rules.{_⊢_∶_, _⊢*_∶_, every-none, every-more, basis-var, term-var, bound-var, pair-base, sca-0, sca-delta, sca-add, ket-add, bra-add, opt-add, sum-over, WellFormed}
 use Rattle.types.proofs.Indices.{bind-well}
 use Rattle.meaning.specs.Choices.{Choice, push, run, Meaning, a-term, a-basis}
 use Rattle.meaning.specs.Meaning.{first, second, plus, product, meaningOf, meaning, dimension, declared, names, stands, stands*}
-use Rattle.meaning.specs.Sorted.{Fits, Proper}
+use Rattle.meaning.specs.Sorted.{Fits, ProperMeaning}
 use Rattle.meaning.proofs.Shapes.{plus-shape, fits-run, sum-stands, sum-index, shape}
 use Rattle.rules.specs.Instances.{Sum, of-scalars, of-arrays, isUnused, spread}
 use Rattle.rules.proofs.Lines.{value, Means}
@@ -100,11 +100,11 @@ module _ {R : Type 0} {𝓐 : Arithmetic R} (𝓡 : StarSemiring 𝓐) {Γ : Con
 
   -- ---- 182: the sum of sums is the sum of the sums
   module _ (s : Tree) (low : stands 𝓐 Γ χ s .dimension ≡ dimension 𝓐 χ s) (from-one : 1 ≤ dimension 𝓐 χ s) (T : Sort) {r c : ℕ}
-      (shaped : (p : ℕ) (x : Meaning R) → Proper 𝓐 (run p χ) T x → Shape (x .matrix) r c) where
-    part-shape : {t : Tree} → bind s Γ ⊢ t ∶ T → (p : ℕ) → p < dimension 𝓐 χ s → Shape (In s p t .matrix) r c
+      (shaped : (p : ℕ) (x : Meaning R) → ProperMeaning 𝓐 (run p χ) T x → HasShape (x .matrix) r c) where
+    part-shape : {t : Tree} → bind s Γ ⊢ t ∶ T → (p : ℕ) → p < dimension 𝓐 χ s → HasShape (In s p t .matrix) r c
     part-shape d p l = shaped p _ (shape 𝓐 (bind-well W s) (fits-run 𝓐 F s p l) d)
 
-    plus-sums : (A : ℕ → Matrix R) → ((p : ℕ) → p < dimension 𝓐 χ s → Shape (A p) r c) → {f : Forest} → bind s Γ ⊢* f ∶ T
+    plus-sums : (A : ℕ → Matrix R) → ((p : ℕ) → p < dimension 𝓐 χ s → HasShape (A p) r c) → {f : Forest} → bind s Γ ⊢* f ∶ T
         → sum-matrices 𝓐 (dimension 𝓐 χ s) (λ p. plus 𝓐 (A p) (stands* 𝓐 (bind s Γ) (run p χ) f)) ≈ plus 𝓐 (sum-matrices 𝓐 (dimension 𝓐 χ s) A) (stands* 𝓐 Γ χ (spread big-sum (s ▹ none) f none))
     unfolding plus meaning spread _⧺_ stands
     plus-sums A a every-none = ≈-refl _

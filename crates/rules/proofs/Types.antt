@@ -1,7 +1,9 @@
 -- Each pattern rule keeps the sort of a typed part: the derivation of the left side is matched, and that of the right side is made of its pieces.
 use mathlib.Core.Path.{_≡_}
 use Rattle.types.specs.Sorts.{index, Context}
-use Rattle.types.specs.Rules.{_⊢_∶_, every-none, every-more, sca-0, sca-1, sca-delta, sca-add, sca-mul, sca-conj, sca-dot, base-prod, pair-base, ket-0, ket-base, ket-adj, ket-scr, ket-add, ket-mulk, ket-tsr, bra-0, bra-base, bra-adj, bra-scr, bra-add, bra-mulb, bra-tsr, opt-0, opt-1, opt-adj, opt-scr, opt-add, opt-outer, opt-mulo, opt-tsr, bound-var, sum-over, WellFormed}
+use Rattle.types.specs.Rules.{_⊢_∶_, every-none, every-more, sca-0, sca-1, sca-delta, sca-add, sca-mul, sca-conj, sca-dot, base-prod, pair-base, ket-0, ket-base, ket-adj, ket-scr, ket-add}
+use Rattle.types.specs.Rules.{ket-mulk, ket-tsr, bra-0, bra-base, bra-adj, bra-scr, bra-add, bra-mulb, bra-tsr, opt-0, opt-1, opt-adj, opt-scr, opt-add, opt-outer, opt-mulo, opt-tsr}
+use Rattle.types.specs.Rules.{bound-var, sum-over, WellFormed}
 use Rattle.types.proofs.Indices.{index-is}
 use Rattle.types.proofs.Proper.{proper}
 use Rattle.rules.proofs.Lines.{not-so, sort-is, Keeps}

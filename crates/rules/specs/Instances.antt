@@ -8,7 +8,8 @@ use Rattle.term.specs.Trees.{Tree, Forest, node, none, _▹_, _⧺_, count, wor
 use Rattle.types.specs.Sorts.{Sort, ket, bra, operator, Context}
 use Rattle.types.specs.Rules.{_⊢_∶_}
 use Rattle.rules.specs.Patterns.{Pattern, #_, first, second, _⟨⟩, _⟨_⟩, _⟨_∣_⟩, firstIndex, secondIndex}
-use Rattle.rules.specs.Table.{Condition, any, a-ket, a-bra, an-operator, unused, Which, child, child-i, Summand, plain, scaled, Rule, _⇒_▷_, spreading, removing, absorbing, merging, collecting, swapping, distributing}
+use Rattle.rules.specs.Table.{Condition, any, a-ket, a-bra, an-operator, unused, Which, child, child-i, Summand, plain, scaled, Rule, _⇒_▷_, spreading, removing, absorbing, merging}
+use Rattle.rules.specs.Table.{collecting, swapping, distributing}
 
 -- A side of an equation with the parts θ in its holes. Where it names an index of what hole k holds, that part has a type, and the index is the type's: 002's
 -- "K : K(τ) ⇒"
@@ -34,14 +35,14 @@ Holds Γ an-operator θ = (σ : Tree) × (τ : Tree) × (Γ ⊢ θ 0 ∶ operato
 Holds Γ unused θ = isUnused (θ 1) ≡ true
 
 -- "of a 7, 8 or 20"
-pub data Chain : Label → Type 0 where
-  scalar-sums : Chain scalar-sum
-  scalar-products : Chain scalar-product
-  sums : Chain add
+pub data ACSymbol : Label → Type 0 where
+  scalar-sums : ACSymbol scalar-sum
+  scalar-products : ACSymbol scalar-product
+  sums : ACSymbol add
 
 -- the heads whose children may change places: these, and 02, CR 2: "Delta is no longer ordered"
 pub data Loose : Label → Type 0 where
-  loose-chain : {l : Label} → Chain l → Loose l
+  loose-chain : {l : Label} → ACSymbol l → Loose l
   loose-delta : Loose delta
 
 -- 02, CR 1: "a body that is a sum (7 or 20)"
@@ -82,7 +83,7 @@ pub data Instance (Γ : Context) : Rule → ℕ → ℕ → Tree → Tree → Ty
   absorbs : (before after : Forest)
       → Instance Γ absorbing (count before) 0 (node scalar-product (before ⧺ node scalar-zero none ▹ after)) (node scalar-zero none)
   -- "1 merges child i, of the parent's own head (7, 8 or 20), into the parent"
-  merges : {l : Label} (before f after : Forest) → Chain l
+  merges : {l : Label} (before f after : Forest) → ACSymbol l
       → Instance Γ merging (count before) 0 (node l (before ⧺ node l f ▹ after)) (node l (before ⧺ f ⧺ after))
   -- "51–54 need i < j. .. must equal the other word by word; the new summand goes last"
   collects : {u v : Summand} (before between after : Forest) (a b x : Tree)

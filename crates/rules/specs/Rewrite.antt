@@ -8,12 +8,14 @@ use lib.Dec.{eqb, ltb}
 use lib.ListN.{length, getD}
 use Rattle.words.specs.Listed.{orElse}
 use Rattle.words.specs.Words.{sameWords}
-use Rattle.term.specs.Heads.{Label, type-name, basis-name, variable, index-product, pair, scalar-zero, scalar-one, scalar-sum, scalar-product, conjugate, delta, dot, zero-ket, zero-bra, zero-operator, identity, basis-ket, basis-bra, adjoint, scale, add, tensor, mulk, mulb, outer, mulo, big-sum, bound-basis, word}
+use Rattle.term.specs.Heads.{Label, type-name, basis-name, variable, index-product, pair, scalar-zero, scalar-one, scalar-sum, scalar-product, conjugate, delta, dot, zero-ket, zero-bra}
+use Rattle.term.specs.Heads.{zero-operator, identity, basis-ket, basis-bra, adjoint, scale, add, tensor, mulk, mulb, outer, mulo, big-sum, bound-basis, word}
 use Rattle.term.specs.Trees.{Tree, Forest, node, none, _▹_, _⧺_, count, words}
 use Rattle.types.specs.Sorts.{Sort, index, basis, scalar, ket, bra, operator, Context}
-use Rattle.types.specs.TypeOf.{Typed, typed, untyped, typeOf}
+use Rattle.types.specs.TypeOf.{Inferred, typed, untyped, typeOf}
 use Rattle.rules.specs.Patterns.{Pattern, #_, first, second, _⟨⟩, _⟨_⟩, _⟨_∣_⟩, no-index, firstIndex, secondIndex}
-use Rattle.rules.specs.Table.{Condition, any, a-ket, a-bra, an-operator, unused, Which, child, child-i, Summand, plain, scaled, Rule, _⇒_▷_, spreading, removing, absorbing, merging, collecting, swapping, distributing}
+use Rattle.rules.specs.Table.{Condition, any, a-ket, a-bra, an-operator, unused, Which, child, child-i, Summand, plain, scaled, Rule, _⇒_▷_, spreading, removing, absorbing, merging}
+use Rattle.rules.specs.Table.{collecting, swapping, distributing}
 use Rattle.rules.specs.Instances.{isUnused, spread, factor}
 
 -- ---- heads
@@ -53,7 +55,7 @@ unfoldable pub isHead : Label → Label → ℕ → Bool
 isHead l m n = eqb (word l n) (word m n)
 
 -- ---- the type of what a hole holds, and scalar for what has none
-abbrev pub sortIn : Typed → Sort
+abbrev pub sortIn : Inferred → Sort
 sortIn (typed S) = S
 sortIn (untyped k) = scalar
 

@@ -20,8 +20,8 @@ use Rattle.rules.specs.Outcomes.{Outcome}
 
 -- ---- the rules
 -- the function answers exactly the instances of a typed part; so a part has at most one result by a rule with given indices
-abbrev pub Decides : Type 0
-Decides =
+abbrev pub DecidesStep : Type 0
+DecidesStep =
     (Γ : Context) → WellFormed Γ → (n : ℕ) (r : Rule) → ruleOf n ≡ some r → (i j : ℕ) (p q : Tree) → Formed p → (S : Sort) → Γ ⊢ p ∶ S
     → (rewrite Γ r i j p ≡ some q) ↔ Instance Γ r i j p q
 

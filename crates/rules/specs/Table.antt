@@ -1,10 +1,12 @@
--- The 122 rules as data, by the numbers of document 01 ("The rules by number"), each with its name. Each line is read against source document 002, tables 1 to 11; 180 to 183 against document 02, CR 1.
+-- The 122 rules as data, by the numbers of document 01 ("The rules by number"), each with its name.
+-- Each line is read against source document 002, tables 1 to 11; 180 to 183 against document 02, CR 1.
 use mathlib.Core.Bool.{cond}
 use mathlib.Core.List.{List, [], _∷_}
 use mathlib.Core.Option.{Option, some, none}
 use Prim.Native.Nat.{ℕ}
 use lib.Dec.{eqb}
-use Rattle.term.specs.Heads.{Label, index-product, pair, scalar-zero, scalar-one, scalar-sum, scalar-product, conjugate, delta, dot, zero-ket, zero-bra, zero-operator, identity, basis-ket, basis-bra, adjoint, scale, add, tensor, mulk, mulb, outer, mulo, big-sum, bound-basis}
+use Rattle.term.specs.Heads.{Label, index-product, pair, scalar-zero, scalar-one, scalar-sum, scalar-product, conjugate, delta, dot, zero-ket, zero-bra, zero-operator, identity, basis-ket}
+use Rattle.term.specs.Heads.{basis-bra, adjoint, scale, add, tensor, mulk, mulb, outer, mulo, big-sum, bound-basis}
 use Rattle.rules.specs.Patterns.{Pattern, #_, first, second, _⟨⟩, _⟨_⟩, _⟨_∣_⟩}
 
 -- What must hold of the parts in the holes, where the left side does not tell: of what kind that in hole 0 is, 002's "K : K(σ) ⇒" in SCRK0, SCRB0 and SCRO0; that the one in hole 1 does

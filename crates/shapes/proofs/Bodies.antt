@@ -94,7 +94,8 @@ module _ (ws : List ℕ) (outer : ℕ → List ℕ) where
     climbs p u g q left =
         let z : o + 1 + length (words* p) ≡ suc o + length (words* p) = omega arith in
         let y : count p + 0 ≡ count p = omega arith in
-        let h : drop (suc o) ws ≡ words* p ++ (words* (u ▹ g) ++ rest) = row-behind ∙ ap (λ (x : Forest). words* x ++ rest) q ∙ ap (λ (x : List ℕ). x ++ rest) (words*-⧺ p (u ▹ g)) ∙ append-assoc (words* p) (words* (u ▹ g)) rest in
+        let h : drop (suc o) ws ≡ words* p ++ (words* (u ▹ g) ++ rest) = row-behind ∙ ap (λ (x : Forest). words* x ++ rest) q ∙ ap (λ (x : List ℕ). x ++ rest) (words*-⧺ p (u ▹ g)) ∙ append-assoc
+        (words* p) (words* (u ▹ g)) rest in
         let few : count p < count cs = omega (arith, ap count q, count-⧺ p (u ▹ g)) in
         let k = pass* p (suc o) (words* (u ▹ g) ++ rest) 0 left (Formed*-⧺ p (u ▹ g) (rw q at (f .1)) .0) h in
         rw z (k ∙ rw y (back-word o (count p) left l (count cs) word-there ∙ rw (lt-ltb (count p) (count cs) few)))
@@ -145,7 +146,8 @@ module _ (ws : List ℕ) (outer : ℕ → List ℕ) where
   mutual
     unfolding words Formed inside
 
-    inside-bound : (Γ : Context) (t : Tree) (o k : ℕ) (rest : List ℕ) → Formed t → drop o ws ≡ words t ++ rest → Bound ws outer o (Γ .bound) → k < length (words t) → Bound ws outer (o + k) (inside Γ t k .bound)
+    inside-bound : (Γ : Context) (t : Tree) (o k : ℕ) (rest : List ℕ) → Formed t → drop o ws ≡ words t ++ rest → Bound ws outer o (Γ .bound) → k < length (words t)
+        → Bound ws outer (o + k) (inside Γ t k .bound)
     inside-bound Γ (node l cs) o zero rest f e b h = let z : o + 0 ≡ o = omega arith in rw z b
     inside-bound Γ (node l cs) o (suc k) rest f e b h =
         let z : o + suc k ≡ o + 1 + k = omega arith in

@@ -122,6 +122,8 @@ same-class h a b alike o f m = go (eqb (ruleAt h / 4096) 5) refl o
         let same = eqb-true (numberOf (childOf h 0)) (numberOf (childOf h 1)) (q .0) in
         let few = ltb-true (numberOf (childOf h 0)) 7 (q .1) in
         let four = eqb-true (ruleAt h / 4096) 4 (p .0) in
+        let i = numberOf (childOf h 0) in
+        let j = numberOf (childOf h 1) in
         let g = both (eqb (numberOf (a .class)) (numberOf (childOf h 0))) (eqb (numberOf (b .class)) (numberOf (childOf h 1)))
-        (rw (four, one-only (numberOf (childOf h 0)) 7 few, one-only (numberOf (childOf h 0)) 8 (omega arith), one-only (numberOf (childOf h 1)) 7 (omega arith), one-only (numberOf (childOf h 1)) 8 (omega arith)) at f) in
+        (rw (four, one-only i 7 few, one-only i 8 (omega arith), one-only j 7 (omega arith), one-only j 8 (omega arith)) at f) in
         eqb-true _ _ (g .0) ∙ same ∙ sym (eqb-true _ _ (g .1))

@@ -159,11 +159,13 @@ module _ (ds ws : List ℕ) (outer : ℕ → List ℕ) (n at m : ℕ) (S s t : S
       rw (first .side right u, second (r .0) .side right v) (pair-is (sideIn right (shapeOf s)) (sideIn right (shapeOf t)) (λ z. there (e ∙ z)) ∙ sym e)
 
   piece-side : (right : Bool) → isProduct (ruleAt h / 4096) ≡ false → sideIn right (shapeOf S) ≢ []
-      → cond (eqb (digit right (ruleAt h)) 0) (leafIndex ds ws outer right at (getD ws at 0)) (sideAt ds ws outer (isRight (digit right (ruleAt h))) n (childAt ws at (leb 3 (digit right (ruleAt h))))) ≡ sideIn right (shapeOf S)
+      → cond (eqb (digit right (ruleAt h)) 0) (leafIndex ds ws outer right at (getD ws at 0))
+      (sideAt ds ws outer (isRight (digit right (ruleAt h))) n (childAt ws at (leb 3 (digit right (ruleAt h))))) ≡ sideIn right (shapeOf S)
   unfolding sideOf
   piece-side right p there =
       let e : sideIn right (shapeOf S) ≡ pieceOf (digit right (ruleAt h)) (shapeOf s) (shapeOf t) = rw p at (x .side right) in
-      piece-is (digit right (ruleAt h)) (shapeOf s) (shapeOf t) (leafIndex ds ws outer right at (getD ws at 0)) (λ r k. sideAt ds ws outer r n (childAt ws at k)) (first .side) (λ z. second (row .side-two right z) .side) (λ z. there (e ∙ z)) ∙ sym e
+      piece-is (digit right (ruleAt h)) (shapeOf s) (shapeOf t) (leafIndex ds ws outer right at (getD ws at 0)) (λ r k. sideAt ds ws outer r n (childAt ws at k)) (first .side)
+      (λ z. second (row .side-two right z) .side) (λ z. there (e ∙ z)) ∙ sym e
 
   -- an index is its own, which the caller knows
   pub node-side : (numberOf (shapeOf S .class) ≡ 1 → (right : Bool) → sideIn right (shapeOf S) ≢ [] → part ws at ≡ sideIn right (shapeOf S))

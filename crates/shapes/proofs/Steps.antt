@@ -35,7 +35,7 @@ there ws at w r h = elim (decLe (length ws) at) [
   | no k ↦ omega arith
 ]
 
-pub some-rule : (right : Bool) {rule k : ℕ} → k ≡ digit right rule → k ≢ 0 → rule ≢ 0
+some-rule : (right : Bool) {rule k : ℕ} → k ≡ digit right rule → k ≢ 0 → rule ≢ 0
 some-rule true e h z = h (rw (e, z))
 some-rule false e h z = h (rw (e, z))
 
@@ -67,9 +67,15 @@ unfolding classAt
 class-at ds ws zero at h = absurd (omega arith)
 class-at ds ws (suc n) at h = let z : suc n - 1 ≡ n = omega arith in rw z
 
-module _ (ds ws : List ℕ) (n at : ℕ) (some : 0 < n) {word : ℕ} (w : word ≡ getD ws at 0) (turned : Bool) {goal : ℕ} (inv : turnedIf turned (classAt ds ws n at) ≡ goal) where
+-- a turn of the loop: the word at hand, and that its class, turned or not, is the one asked for
+pub record Turning (ds ws : List ℕ) (n at word : ℕ) (turned : Bool) (goal : ℕ) : Type 0 where
+  pub some : 0 < n
+  pub word-is : word ≡ getD ws at 0
+  pub same : turnedIf turned (classAt ds ws n at) ≡ goal
+
+module _ {ds ws : List ℕ} {n at word : ℕ} {turned : Bool} {goal : ℕ} (x : Turning ds ws n at word turned goal) where
   by-word : turnedIf turned (classRead ds word λ second. classAt ds ws (n - 1) (childAt ws at second)) ≡ goal
-  by-word = rw (← w) at (rw (class-at ds ws n at some) at inv)
+  by-word = rw (← x .word-is) at (rw (class-at ds ws n at (x .some)) at (x .same))
 
   pub class-variable : word / 256 ≡ 26 → {v r : ℕ} → v ≡ variableClass ds (word % 256) → r ≡ turnedIf turned v → r ≡ goal
   unfolding classRead
@@ -90,7 +96,8 @@ side-none : (ds ws : List ℕ) (outer : ℕ → List ℕ) (right : Bool) (n at :
 unfolding sideAt
 side-none ds ws outer right n at e = rw e
 
-side-at : (ds ws : List ℕ) (outer : ℕ → List ℕ) (right : Bool) (n at : ℕ) → n ≢ 0 → sideAt ds ws outer right n at ≡ sideRead (getD ws at 0) (part ws at) (leafIndex ds ws outer right at (getD ws at 0)) right λ r second. sideAt ds ws outer r (n - 1) (childAt ws at second)
+side-at : (ds ws : List ℕ) (outer : ℕ → List ℕ) (right : Bool) (n at : ℕ) → n ≢ 0
+    → sideAt ds ws outer right n at ≡ sideRead (getD ws at 0) (part ws at) (leafIndex ds ws outer right at (getD ws at 0)) right λ r second. sideAt ds ws outer r (n - 1) (childAt ws at second)
 unfolding sideAt
 side-at ds ws outer right zero at h = absurd (h refl)
 side-at ds ws outer right (suc n) at h = let z : suc n - 1 ≡ n = omega arith in rw z
@@ -115,41 +122,64 @@ some-word : {word rule : ℕ} → rule ≡ ruleAt (word / 256) → rule ≢ 0 �
 unfolding ruleAt rules
 some-word r h z = h (rw z at r)
 
-pub inside : (ws : List ℕ) (n at : ℕ) {word rule : ℕ} → word ≡ cond (eqb n 0) 0 (getD ws at 0) → rule ≡ ruleAt (word / 256) → rule ≢ 0 → (n ≢ 0) × (at < length ws)
-inside ws n at w r h = let x = within ws n at w (some-word r h) in (x .0, there ws at (x .1) r h)
+-- ---- by the tests that the code makes, one after the other
+-- a word that is read, with its class, and with its rule where it is no index
+pub record Ruled (ws : List ℕ) (right : Bool) (n at word class rule : ℕ) : Type 0 where
+  pub word-is : word ≡ cond (eqb n 0) 0 (getD ws at 0)
+  pub class-is : class ≡ numberOf (resultOf (word / 256))
+  pub no-index : class ≢ 1
+  pub rule-is : rule ≡ ruleAt (word / 256)
 
--- by the tests that the code makes, one after the other
-module _ (ds ws : List ℕ) (outer : ℕ → List ℕ) (right : Bool) (n at : ℕ) {word : ℕ} (w : word ≡ cond (eqb n 0) 0 (getD ws at 0)) where
-  word-side : (n ≢ 0) × (word ≡ getD ws at 0) → sideRead word (part ws at) (leafIndex ds ws outer right at word) right (λ r second. sideAt ds ws outer r (n - 1) (childAt ws at second)) ≡ sideAt ds ws outer right n at
+module _ {ws : List ℕ} {right : Bool} {n at word class rule : ℕ} (x : Ruled ws right n at word class rule) where
+  ruled-word : rule ≢ 0 → (n ≢ 0) × (word ≡ getD ws at 0)
+  ruled-word h = within ws n at (x .word-is) (some-word (x .rule-is) h)
+
+  inside : rule ≢ 0 → (n ≢ 0) × (at < length ws)
+  inside h = let y = ruled-word h in (y .0, there ws at (y .1) (x .rule-is) h)
+
+  pub product-inside : 4 ≤ rule / 4096 → (n ≢ 0) × (at < length ws)
+  product-inside h = inside (λ z. omega arith)
+
+  pub child-inside : {k : ℕ} → k ≡ digit right rule → k ≢ 0 → (n ≢ 0) × (at < length ws)
+  child-inside e h = inside (some-rule right e h)
+
+module _ (ds ws : List ℕ) (outer : ℕ → List ℕ) (right : Bool) (n at : ℕ) where
+  abbrev Sides : List ℕ → Type 0
+  Sides is = is ≡ sideAt ds ws outer right n at
+
+  word-side : {word : ℕ} → (n ≢ 0) × (word ≡ getD ws at 0)
+      → Sides (sideRead word (part ws at) (leafIndex ds ws outer right at word) right λ r second. sideAt ds ws outer r (n - 1) (childAt ws at second))
   word-side x = rw (side-at ds ws outer right n at (x .0), x .1)
 
-  module _ {class : ℕ} (c : class ≡ numberOf (resultOf (word / 256))) where
-    pub side-index : class ≡ 1 → part ws at ≡ sideAt ds ws outer right n at
-    unfolding sideRead
-    side-index h = rw (eq-eqb _ 1 (sym c ∙ h)) at (word-side (within ws n at w (some-class c h)))
+  pub side-index : {word class : ℕ} → word ≡ cond (eqb n 0) 0 (getD ws at 0) → class ≡ numberOf (resultOf (word / 256)) → class ≡ 1 → Sides (part ws at)
+  unfolding sideRead
+  side-index w c h = rw (eq-eqb _ 1 (sym c ∙ h)) at (word-side (within ws n at w (some-class c h)))
 
-    module _ (no-index : class ≢ 1) {rule : ℕ} (r : rule ≡ ruleAt (word / 256)) where
-      pub side-product : 4 ≤ rule / 4096 → {second : ℕ} → second ≡ childAt ws at true → 512 ∷ (sideAt ds ws outer right (n - 1) (at + 1) ++ sideAt ds ws outer right (n - 1) second) ≡ sideAt ds ws outer right n at
-      unfolding sideRead childAt
-      side-product h e = rw e (rw (ne-eqb _ 1 (λ z. no-index (c ∙ z)), ← r, le-leb 4 _ h) at (word-side (within ws n at w (some-word r (λ z. omega arith)))))
+  module _ {word class rule : ℕ} (x : Ruled ws right n at word class rule) where
+    other : eqb (numberOf (resultOf (word / 256))) 1 ≡ false
+    other = ne-eqb _ 1 (λ z. x .no-index (x .class-is ∙ z))
 
-      module _ (no-product : rule / 4096 < 4) {k : ℕ} (d : k ≡ digit right rule) where
-        leaf-by : (b : Bool) → eqb n 0 ≡ b → word ≡ cond b 0 (getD ws at 0) → k ≡ 0 → leafIndex ds ws outer right at word ≡ sideAt ds ws outer right n at
-        unfolding sideRead leafIndex declaredIndex
-        leaf-by true e x h = rw x (side-none ds ws outer right n at (eqb-true n 0 e))
-        leaf-by false e x h = rw (ne-eqb _ 1 (λ z. no-index (c ∙ z)), ← r, lt-leb 4 _ no-product, eq-eqb (digit right rule) 0 (sym d ∙ h)) at (word-side (eqb-false n 0 e, x))
+    pub side-product : 4 ≤ rule / 4096 → {second : ℕ} → second ≡ childAt ws at true → Sides (512 ∷ (sideAt ds ws outer right (n - 1) (at + 1) ++ sideAt ds ws outer right (n - 1) second))
+    unfolding sideRead childAt
+    side-product h e = rw e (rw (other, ← x .rule-is, le-leb 4 _ h) at (word-side (ruled-word x (λ z. omega arith))))
 
-        leaf : k ≡ 0 → leafIndex ds ws outer right at word ≡ sideAt ds ws outer right n at
-        leaf = leaf-by (eqb n 0) refl w
+    module _ (no-product : rule / 4096 < 4) {k : ℕ} (d : k ≡ digit right rule) where
+      leaf-by : (b : Bool) → eqb n 0 ≡ b → word ≡ cond b 0 (getD ws at 0) → k ≡ 0 → Sides (leafIndex ds ws outer right at word)
+      unfolding sideRead leafIndex declaredIndex
+      leaf-by true e w h = rw w (side-none ds ws outer right n at (eqb-true n 0 e))
+      leaf-by false e w h = rw (other, ← x .rule-is, lt-leb 4 _ no-product, eq-eqb (digit right rule) 0 (sym d ∙ h)) at (word-side (eqb-false n 0 e, w))
 
-        pub side-bound : k ≡ 0 → word / 256 ≡ 28 → boundIn ws outer at (word % 256) ≡ sideAt ds ws outer right n at
-        unfolding leafIndex
-        side-bound h b = rw (eq-eqb _ 28 b) at (leaf h)
+      leaf : k ≡ 0 → Sides (leafIndex ds ws outer right at word)
+      leaf = leaf-by (eqb n 0) refl (x .word-is)
 
-        pub side-declared : k ≡ 0 → word / 256 ≢ 28 → declaredIndex ds right word ≡ sideAt ds ws outer right n at
-        unfolding leafIndex
-        side-declared h b = rw (ne-eqb _ 28 b) at (leaf h)
+      pub side-bound : k ≡ 0 → word / 256 ≡ 28 → Sides (boundIn ws outer at (word % 256))
+      unfolding leafIndex
+      side-bound h b = rw (eq-eqb _ 28 b) at (leaf h)
 
-        pub side-child : k ≢ 0 → {child : ℕ} → child ≡ childAt ws at (leb 3 k) → sideAt ds ws outer (isRight k) (n - 1) child ≡ sideAt ds ws outer right n at
-        unfolding sideRead
-        side-child h e = rw (e, d) (rw (ne-eqb _ 1 (λ z. no-index (c ∙ z)), ← r, lt-leb 4 _ no-product, ne-eqb (digit right rule) 0 (λ z. h (d ∙ z))) at (word-side (within ws n at w (some-word r (some-rule right d h)))))
+      pub side-declared : k ≡ 0 → word / 256 ≢ 28 → Sides (declaredIndex ds right word)
+      unfolding leafIndex
+      side-declared h b = rw (ne-eqb _ 28 b) at (leaf h)
+
+      pub side-child : k ≢ 0 → {child : ℕ} → child ≡ childAt ws at (leb 3 k) → Sides (sideAt ds ws outer (isRight k) (n - 1) child)
+      unfolding sideRead
+      side-child h e = rw (e, d) (rw (other, ← x .rule-is, lt-leb 4 _ no-product, ne-eqb (digit right rule) 0 (λ z. h (d ∙ z))) at (word-side (ruled-word x (some-rule right d h))))

@@ -88,7 +88,8 @@ module _ (ds ws : List ℕ) (outer : ℕ → List ℕ) (good : goodDeclarations 
       let r : (26 * 256 + a) % 256 ≡ a = omega arith in
       record {
         class = rw (e, q, r) (class-declared ds a (good, u .0) ∙ ap (λ (T : Sort). numberOf (shapeOf T .class)) (u .1));
-        side = λ right m. rw (e, q, no-digit right, r) (side-declared ds a (good, u .0) right (λ z. m (ap (λ (T : Sort). sideIn right (shapeOf T)) (sym (u .1)) ∙ z)) ∙ ap (λ (T : Sort). sideIn right (shapeOf T)) (u .1));
+        side = λ right m. rw (e, q, no-digit right, r) (side-declared ds a (good, u .0) right (λ z. m (ap (λ (T : Sort). sideIn right (shapeOf T)) (sym (u .1)) ∙ z)) ∙ ap
+            (λ (T : Sort). sideIn right (shapeOf T)) (u .1));
       }
   leaf n at bs e p (bound-var {a} {σ} h i d) b =
       let x = b a σ i in
@@ -157,5 +158,6 @@ pub bound-inside : BoundInside
 bound-inside = Bodies.bound-inside
 
 -- an index that a sort has on a side is read there
-pub index-read : {ds ws : List ℕ} {outer : ℕ → List ℕ} {budget at : ℕ} {S : Sort} → Read ds ws outer budget at S → (right : Bool) (σ : Tree) → sideIn right (shapeOf S) ≡ words σ → sideAt ds ws outer right budget at ≡ words σ
+pub index-read : {ds ws : List ℕ} {outer : ℕ → List ℕ} {budget at : ℕ} {S : Sort} → Read ds ws outer budget at S → (right : Bool) (σ : Tree) → sideIn right (shapeOf S) ≡ words σ
+    → sideAt ds ws outer right budget at ≡ words σ
 index-read r right σ e = r .side right (λ z. some-index σ (sym e ∙ z)) ∙ e

@@ -1,5 +1,5 @@
 -- The walk back, one word after the other, as the code does it.
-use mathlib.Core.Path.{_≡_, refl, _∙_}
+use mathlib.Core.Path.{_≡_, refl, sym, _∙_}
 use mathlib.Core.Logic.{_≢_}
 use mathlib.Core.Bool.{Bool, true, false, cond, _&&_}
 use mathlib.Core.List.{List, []}
@@ -8,6 +8,7 @@ use native.Mathlib.Omega.{arith}
 use borrow.Author.Tests.{eq-eqb, ne-eqb, lt-ltb, le-ltb}
 use lib.Dec.{eqb, ltb}
 use lib.ListN.{getD}
+use Rattle.term.specs.declared.heads.Arity.{Arity}
 use Rattle.term.specs.declared.heads.Arity.the-variants.{Unknown, Children}
 use Rattle.term.specs.Heads.{Label, Reading, unread, labelled, read, arityOf}
 use Rattle.term.specs.Parts.{part}
@@ -81,40 +82,47 @@ module _ (ws : List ℕ) (at a : ℕ) where
   unfolding back walked
   walk-end i parts left w e = let h = rw e at (w .is) in rw (← h)
 
-  module _ (i parts left : ℕ) (w : Walking ws at a i parts left) (more : 0 < i) {word : ℕ} (e : word ≡ getD ws (i - 1) 0) where
-    walk-on : stepBack (read word) (i - 1) parts left (λ p n. back ws (i - 1) p n) ≡ back ws at 0 a
-    unfolding back
-    walk-on = let z : i ≡ suc (i - 1) = omega arith in let h = rw z at (w .is) in rw (← e) at h
+-- a turn: the word before, and what it wants
+pub record Turned (ws : List ℕ) (at a i parts left word : ℕ) (arity : Arity) : Type 0 where
+  pub walking : Walking ws at a i parts left
+  pub more : 0 < i
+  pub word-is : word ≡ getD ws (i - 1) 0
+  pub arity-is : arity ≡ arityOf word
 
-    pub walk-unknown : arityOf word ≡ Unknown → Walking ws at a (i - 1) parts left
+module _ {ws : List ℕ} {at a i parts left word : ℕ} {arity : Arity} (x : Turned ws at a i parts left word arity) where
+  walk-on : stepBack (read word) (i - 1) parts left (λ p n. back ws (i - 1) p n) ≡ back ws at 0 a
+  unfolding back
+  walk-on = let m = x .more in let z : i ≡ suc (i - 1) = omega arith in let h = rw z at (x .walking .is) in rw (← x .word-is) at h
+
+  pub walk-unknown : arity ≡ Unknown → Walking ws at a (i - 1) parts left
+  unfolding stepBack
+  walk-unknown r = record { few = let m = x .more in omega (arith, x .walking .few); is = rw (read-unknown word (sym (x .arity-is) ∙ r)) at walk-on }
+
+  module _ {n : ℕ} (r : arity ≡ Children n) where
+    walk-read : (l : Label) × (stepBack (labelled l n) (i - 1) parts left (λ p m. back ws (i - 1) p m) ≡ back ws at 0 a) × (binds l ≡ eqb (word / 256) 27)
+    walk-read = let k = read-children word n (sym (x .arity-is) ∙ r) in (k .0, rw (k .1) at walk-on, binds-word word (k .0) n (k .1))
+
+    pub walk-whole : n ≤ parts → Walking ws at a (i - 1) (parts - n + 1) left
     unfolding stepBack
-    walk-unknown r = record { few = omega (arith, w .few); is = rw (read-unknown word r) at walk-on }
+    walk-whole h = record { few = let m = x .more in omega (arith, x .walking .few); is = rw (le-ltb parts n h) at (walk-read .1) }
 
-    module _ (n : ℕ) (r : arityOf word ≡ Children n) where
-      walk-read : (l : Label) × (stepBack (labelled l n) (i - 1) parts left (λ p m. back ws (i - 1) p m) ≡ back ws at 0 a) × (binds l ≡ eqb (word / 256) 27)
-      walk-read = let k = read-children word n r in (k .0, rw (k .1) at walk-on, binds-word word (k .0) n (k .1))
+    -- a head above, in which the place is no body
+    pub walk-first : parts < n → parts ≢ 1 → Walking ws at a (i - 1) 0 left
+    unfolding stepBack
+    walk-first h k = record { few = let m = x .more in omega (arith, x .walking .few); is = rw (lt-ltb parts n h, ne-eqb parts 1 k) at (walk-read .1) }
 
-      pub walk-whole : n ≤ parts → Walking ws at a (i - 1) (parts - n + 1) left
+    module _ (h : parts < n) (one : parts ≡ 1) where
+      below-one : (l : Label) × (cond (binds l) (cond (eqb left 0) (found (i - 1)) (back ws (i - 1) 0 (left - 1))) (back ws (i - 1) 0 left) ≡ back ws at 0 a) × (binds l ≡ eqb (word / 256) 27)
       unfolding stepBack
-      walk-whole h = record { few = omega (arith, w .few); is = rw (le-ltb parts n h) at (walk-read .1) }
+      below-one = let k = walk-read in (k .0, rw (lt-ltb parts n h, eq-eqb parts 1 one) at (k .1), k .2)
 
-      -- a head above, in which the place is no body
-      pub walk-first : parts < n → parts ≢ 1 → Walking ws at a (i - 1) 0 left
-      unfolding stepBack
-      walk-first h k = record { few = omega (arith, w .few); is = rw (lt-ltb parts n h, ne-eqb parts 1 k) at (walk-read .1) }
+      pub walk-other : word / 256 ≢ 27 → Walking ws at a (i - 1) 0 left
+      walk-other k = let b = below-one in record { few = let m = x .more in omega (arith, x .walking .few); is = rw (b .2 ∙ ne-eqb _ 27 k) at (b .1) }
 
-      module _ (h : parts < n) (one : parts ≡ 1) where
-        below-one : (l : Label) × (cond (binds l) (cond (eqb left 0) (found (i - 1)) (back ws (i - 1) 0 (left - 1))) (back ws (i - 1) 0 left) ≡ back ws at 0 a) × (binds l ≡ eqb (word / 256) 27)
-        unfolding stepBack
-        below-one = let k = walk-read in (k .0, rw (lt-ltb parts n h, eq-eqb parts 1 one) at (k .1), k .2)
+      module _ (sum : word / 256 ≡ 27) where
+        pub walk-found : left ≡ 0 → record { found = true; at = i - 1 } ≡ walked (back ws at 0 a)
+        unfolding walked
+        walk-found z = let b = below-one in let h = rw (b .2 ∙ eq-eqb _ 27 sum, eq-eqb left 0 z) at (b .1) in rw (← h)
 
-        pub walk-other : word / 256 ≢ 27 → Walking ws at a (i - 1) 0 left
-        walk-other k = let b = below-one in record { few = omega (arith, w .few); is = rw (b .2 ∙ ne-eqb _ 27 k) at (b .1) }
-
-        module _ (sum : word / 256 ≡ 27) where
-          pub walk-found : left ≡ 0 → record { found = true; at = i - 1 } ≡ walked (back ws at 0 a)
-          unfolding walked
-          walk-found z = let b = below-one in let h = rw (b .2 ∙ eq-eqb _ 27 sum, eq-eqb left 0 z) at (b .1) in rw (← h)
-
-          pub walk-body : left ≢ 0 → Walking ws at a (i - 1) 0 (left - 1)
-          walk-body z = let b = below-one in record { few = omega (arith, w .few); is = rw (b .2 ∙ eq-eqb _ 27 sum, ne-eqb left 0 z) at (b .1) }
+        pub walk-body : left ≢ 0 → Walking ws at a (i - 1) 0 (left - 1)
+        walk-body z = let b = below-one in record { few = let m = x .more in omega (arith, x .walking .few); is = rw (b .2 ∙ eq-eqb _ 27 sum, ne-eqb left 0 z) at (b .1) }

@@ -15,13 +15,14 @@ use Rattle.declarations.specs.Declarations.{contextIn}
 use Rattle.typing.specs.Answers.{TypedTerm}
 use Rattle.rules.specs.Steps.{Sides, Run}
 use Rattle.lent.specs.declared.faults.Fault.{Fault}
+use Rattle.lent.specs.Lent.{Derivation}
 use Rattle.lent.specs.Faults.{faultIn}
 use Rattle.lent.specs.Refusals.{Begun, Judged, found, none}
 use Rattle.lent.proofs.Tests.{in-place}
 use Rattle.lent.proofs.Judging.{judges}
 use Rattle.step.specs.declared.run.Answer.{Answer}
 use Rattle.step.specs.Answers.{held}
-use Rattle.step.specs.Runs.{refusal, compared, answered, runFrom, runIn, runAnswer, slice, leftAfter, rightAfter}
+use Rattle.step.specs.Runs.{runRefusal, compared, answered, runFrom, runIn, runAnswer, slice, leftAfter, rightAfter}
 use Rattle.step.specs.Code.Running.{Holding, Ready, numbersOf}
 use Rattle.step.proofs.Held.{its-type}
 use Rattle.step.proofs.Moving.{its-term}
@@ -33,51 +34,52 @@ holding {ds} {ws} {n} {t} h =
     let l : length (take n ws) ≡ n = length-take-le n ws (h .inside) in
     record { good = h .good; isType = h .isType; typed = its-type h; slice = rw (h .is, l, h .size); long = sym (ap length (h .is) ∙ l) }
 
-module _ (ds left : List ℕ) (n : ℕ) (right : List ℕ) (m : ℕ) (steps : List ℕ) (count : ℕ) where
+module _ (d : Derivation) where
   abbrev pub start : Sides
-  start = record { left = treeIn (parse (take n left)); right = treeIn (parse (take m right)) }
+  start = record { left = treeIn (parse (take (d .n) (d .left))); right = treeIn (parse (take (d .m) (d .right))) }
 
-  begun-by : {f : Fault} → Judged ds left n right m steps count f → f .code ≡ 0 → (S : Sort) × Begun ds left n right m steps count start S
+  begun-by : {f : Fault} → Judged d f → f .code ≡ 0 → (S : Sort) × Begun d start S
   begun-by (found x h) z = absurd (h z)
   begun-by (none {S} b) z = (S, record { left-term = in-place (b .left-term) refl; right-term = in-place (b .right-term) refl; order = b .order })
 
-  pub begun : faultIn ds left n right m steps count .code ≡ 0 → (S : Sort) × Begun ds left n right m steps count start S
-  begun = begun-by (judges ds left n right m steps count)
+  pub begun : faultIn d .code ≡ 0 → (S : Sort) × Begun d start S
+  begun = begun-by (judges d)
 
-  pub ready : {p : Sides} {S : Sort} → Begun ds left n right m steps count p S → (left′ right′ : List ℕ) → left′ ≡ cleared left n → right′ ≡ cleared right m → Ready ds left′ n right′ m p S
+  pub ready : {p : Sides} {S : Sort} → Begun d p S → (left′ right′ : List ℕ) → left′ ≡ cleared (d .left) (d .n) → right′ ≡ cleared (d .right) (d .m) → Ready (d .ds) left′ (d .n) right′ (d .m) p S
   ready b left′ right′ e f = rw (e, f) (record { left = holding (b .left-term); right = holding (b .right-term) })
 
   -- ---- what is answered and left
   abbrev Answers : Answer → List ℕ → List ℕ → Type 0
-  Answers r left′ right′ = (r ≡ runAnswer ds left n right m steps count) × (left′ ≡ leftAfter ds left n right m steps count) × (right′ ≡ rightAfter ds left n right m steps count)
+  Answers r left′ right′ = (r ≡ runAnswer d) × (left′ ≡ leftAfter d) × (right′ ≡ rightAfter d)
 
-  module _ (f : Fault) (is : f ≡ faultIn ds left n right m steps count) (r : Answer) (e : r ≡ refusal f) where
-    pub untouched : f .code ≡ 1 → Answers r left right
+  module _ (f : Fault) (is : f ≡ faultIn d) (r : Answer) (e : r ≡ runRefusal f) where
+    pub untouched : f .code ≡ 1 → Answers r (d .left) (d .right)
     unfolding runAnswer leftAfter rightAfter slice
     untouched h = (rw (e, ← is, h), rw (← is, h), rw (← is, h))
 
-    pub all-zeros : (left′ right′ : List ℕ) → f .code ≢ 1 → f .code ≢ 0 → left′ ≡ cleared left 0 → right′ ≡ cleared right 0 → Answers r left′ right′
+    pub all-zeros : (left′ right′ : List ℕ) → f .code ≢ 1 → f .code ≢ 0 → left′ ≡ cleared (d .left) 0 → right′ ≡ cleared (d .right) 0 → Answers r left′ right′
     unfolding runAnswer leftAfter rightAfter slice cleared
     all-zeros left′ right′ h k a b =
-        let y : length left - 0 ≡ length left = omega arith in
-        let z : length right - 0 ≡ length right = omega arith in
+        let y : length (d .left) - 0 ≡ length (d .left) = omega arith in
+        let z : length (d .right) - 0 ≡ length (d .right) = omega arith in
         (rw (e, ← is, ne-eqb _ _ k), rw (← is, ne-eqb _ _ k, ne-eqb _ _ h, a, y), rw (← is, ne-eqb _ _ k, ne-eqb _ _ h, b, z))
 
   abbrev run : Run
-  run = runFrom (contextIn ds) start steps 0 count
+  run = runFrom (contextIn (d .ds)) start (d .steps) 0 (d .count)
 
-  run-is : run ≡ runIn ds left n right m steps count
+  run-is : run ≡ runIn d
   unfolding runFrom runIn
   run-is = refl
 
-  module _ (f : Fault) (is : f ≡ faultIn ds left n right m steps count) (z : f .code ≡ 0) (a : Answer) (e : a ≡ numbersOf run) {left′ right′ : List ℕ} {S : Sort} (x : Ready ds left′ (a .left) right′ (a .right) (run .sides) S) where
-    slices : (left′ ≡ leftAfter ds left n right m steps count) × (right′ ≡ rightAfter ds left n right m steps count)
+  module _ (f : Fault) (is : f ≡ faultIn d) (z : f .code ≡ 0) (a : Answer) (e : a ≡ numbersOf run) {left′ right′ : List ℕ} {S : Sort} (x : Ready (d .ds) left′ (a .left) right′
+      (a .right) (run .sides) S) where
+    slices : (left′ ≡ leftAfter d) × (right′ ≡ rightAfter d)
     unfolding leftAfter rightAfter slice
     slices = (rw (← is, z, ← run-is) (x .left .slice), rw (← is, z, ← run-is) (x .right .slice))
 
     pub stopped : a .code ≢ 0 → Answers a left′ right′
     unfolding runAnswer answered numbersOf
-    stopped h = (rw (← is, z, ← run-is, ne-eqb _ _ (λ d. h (rw e d))) e, slices .0, slices .1)
+    stopped h = (rw (← is, z, ← run-is, ne-eqb _ _ (λ z. h (rw e z))) e, slices .0, slices .1)
 
     pub ended : a .code ≡ 0 → (r : Answer) → r ≡ compared (take (a .left) left′) (a .left) (take (a .right) right′) (a .right) (a .step) → Answers r left′ right′
     unfolding runAnswer answered numbersOf

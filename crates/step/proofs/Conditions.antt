@@ -1,6 +1,6 @@
 -- The condition of a rule, by its number: of what kind the part in hole 0 is, as it is read off it, or that the part in hole 1 has no such word.
 use mathlib.Core.Path.{_≡_, refl, sym, _∙_, ap}
-use mathlib.Core.Logic.{_≢_, _⊎_, inl, inr}
+use mathlib.Core.Logic.{_≢_, _⊎_, ⊎-elim}
 use mathlib.Core.Bool.{true, false}
 use mathlib.Core.List.{List}
 use Prim.Native.Nat.{ℕ, _+_, _-_, _≤_, _<_}
@@ -32,63 +32,32 @@ use Rattle.step.specs.Code.Building.{Caught, AllSorted}
 use Rattle.step.proofs.Indices.{class-is}
 use Rattle.step.proofs.Pieces.{caught-run, caught-sort}
 
-kind-wanted : (S : Sort) (k : Condition) → conditionNumber k ≢ 0 → conditionNumber k ≢ 4 → eqb (numberOf (shapeOf S .class)) (3 + conditionNumber k) ≡ wanted k S
-kind-wanted S any h n = absurd (h refl)
-kind-wanted (index σ) a-ket h n = refl
-kind-wanted (basis σ) a-ket h n = refl
-kind-wanted scalar a-ket h n = refl
-kind-wanted (ket σ) a-ket h n = refl
-kind-wanted (bra σ) a-ket h n = refl
-kind-wanted (operator σ τ) a-ket h n = refl
-kind-wanted (index σ) a-bra h n = refl
-kind-wanted (basis σ) a-bra h n = refl
-kind-wanted scalar a-bra h n = refl
-kind-wanted (ket σ) a-bra h n = refl
-kind-wanted (bra σ) a-bra h n = refl
-kind-wanted (operator σ τ) a-bra h n = refl
-kind-wanted (index σ) an-operator h n = refl
-kind-wanted (basis σ) an-operator h n = refl
-kind-wanted scalar an-operator h n = refl
-kind-wanted (ket σ) an-operator h n = refl
-kind-wanted (bra σ) an-operator h n = refl
-kind-wanted (operator σ τ) an-operator h n = refl
-kind-wanted S unused h n = absurd (n refl)
+-- the classes that the kinds have, from 4 on
+classes : (S : Sort) → let n = numberOf (shapeOf S .class) in (eqb n 4 ≡ wanted a-ket S) × (eqb n 5 ≡ wanted a-bra S) × (eqb n 6 ≡ wanted an-operator S)
+classes (index σ) = (refl, refl, refl)
+classes (basis σ) = (refl, refl, refl)
+classes scalar = (refl, refl, refl)
+classes (ket σ) = (refl, refl, refl)
+classes (bra σ) = (refl, refl, refl)
+classes (operator σ τ) = (refl, refl, refl)
 
 -- a kind is asked of the part in hole 0, which is typed
-module _ (k : Condition) (kind : conditionNumber k ≢ 0) (other : conditionNumber k ≢ 4) where
-  kind-satisfied : (Γ : Context) (θ : ℕ → Tree) → wanted k (sortOf Γ (θ 0)) ≡ satisfied Γ k θ
-  unfolding satisfied
-  kind-satisfied Γ θ = by k kind other
-    where
-      by : (k : Condition) → conditionNumber k ≢ 0 → conditionNumber k ≢ 4 → wanted k (sortOf Γ (θ 0)) ≡ satisfied Γ k θ
-      by any h n = absurd (h refl)
-      by a-ket h n = refl
-      by a-bra h n = refl
-      by an-operator h n = refl
-      by unused h n = absurd (n refl)
+record OfKind (k : Condition) : Type 0 where
+  class : (S : Sort) → eqb (numberOf (shapeOf S .class)) (3 + conditionNumber k) ≡ wanted k S
+  first : (Γ : Context) (θ : ℕ → Tree) → wanted k (sortOf Γ (θ 0)) ≡ satisfied Γ k θ
+  asks : (n : ℕ) → asked k n ≡ true → 0 < n
+  types : ofWords k ≡ true → ⊥
 
-  pub kind-asks : (n : ℕ) → asked k n ≡ true → 0 < n
-  unfolding asked
-  kind-asks n e = by k kind other e
-    where
-      by : (k : Condition) → conditionNumber k ≢ 0 → conditionNumber k ≢ 4 → asked k n ≡ true → 0 < n
-      by any h o e = absurd (h refl)
-      by a-ket h o e = ltb-true 0 n e
-      by a-bra h o e = ltb-true 0 n e
-      by an-operator h o e = ltb-true 0 n e
-      by unused h o e = absurd (o refl)
+of-kind : (k : Condition) → conditionNumber k ≢ 0 → conditionNumber k ≢ 4 → OfKind k
+unfolding satisfied asked ofWords
+of-kind any h o = absurd (h refl)
+of-kind a-ket h o = record { class = λ S. classes S .0; first = λ Γ θ. refl; asks = λ n e. ltb-true 0 n e; types = λ e. not-so e }
+of-kind a-bra h o = record { class = λ S. classes S .1; first = λ Γ θ. refl; asks = λ n e. ltb-true 0 n e; types = λ e. not-so e }
+of-kind an-operator h o = record { class = λ S. classes S .2; first = λ Γ θ. refl; asks = λ n e. ltb-true 0 n e; types = λ e. not-so e }
+of-kind unused h o = absurd (o refl)
 
-  kind-typed : {A : Type 0} → (ofWords k ≡ true) ⊎ A → A
-  unfolding ofWords
-  kind-typed (inr a) = a
-  kind-typed (inl e) = by k kind other e
-    where
-      by : {A : Type 0} (k : Condition) → conditionNumber k ≢ 0 → conditionNumber k ≢ 4 → ofWords k ≡ true → A
-      by any h n e = absurd (h refl)
-      by a-ket h n e = absurd (not-so e)
-      by a-bra h n e = absurd (not-so e)
-      by an-operator h n e = absurd (not-so e)
-      by unused h n e = absurd (n refl)
+pub kind-asks : (k : Condition) → conditionNumber k ≢ 0 → conditionNumber k ≢ 4 → (n : ℕ) → asked k n ≡ true → 0 < n
+kind-asks k h o = of-kind k h o .asks
 
 pub condition-few : {n : ℕ} (k : Condition) → n ≡ conditionNumber k → n ≤ 4
 condition-few any e = rw e (omega arith)
@@ -120,36 +89,30 @@ module _ (w : ℕ) (ws : List ℕ) (k : ℕ) where
   lacks-end h = rw (drop-of-length-le ws h)
 
 -- the part in hole 1 has no such word
+is-own : (k : Condition) → conditionNumber k ≡ 4 → k ≡ unused
+is-own any e = absurd (omega arith)
+is-own a-ket e = absurd (omega arith)
+is-own a-bra e = absurd (omega arith)
+is-own an-operator e = absurd (omega arith)
+is-own unused e = refl
+
 pub own-asks : (k : Condition) (n : ℕ) → conditionNumber k ≡ 4 → asked k n ≡ true → 1 < n
 unfolding asked
-own-asks any n e a = absurd (omega arith)
-own-asks a-ket n e a = absurd (omega arith)
-own-asks a-bra n e a = absurd (omega arith)
-own-asks an-operator n e a = absurd (omega arith)
-own-asks unused n e a = ltb-true 1 n a
+own-asks k n e a = ltb-true 1 n (rw (is-own k e) at a)
 
 own-satisfied : (Γ : Context) (k : Condition) (θ : ℕ → Tree) → conditionNumber k ≡ 4 → lacks 7168 (words (θ 1)) ≡ satisfied Γ k θ
 unfolding satisfied isUnused word
-own-satisfied Γ any θ e = absurd (omega arith)
-own-satisfied Γ a-ket θ e = absurd (omega arith)
-own-satisfied Γ a-bra θ e = absurd (omega arith)
-own-satisfied Γ an-operator θ e = absurd (omega arith)
-own-satisfied Γ unused θ e = refl
+own-satisfied Γ k θ e = rw (is-own k e)
 
 module _ {ds ws : List ℕ} {m : Match} (x : Caught ds ws m) (k : Condition) (n : ℕ) (number : n ≡ conditionNumber k) where
   pub own-met : 1 < m .held → n ≡ 4 → lacks 7168 (take (endOf m 1 - startOf m 1) (drop (startOf m 1) ws)) ≡ satisfied (contextAt ds (x .bodies)) k (holes (x .trees))
   own-met met e = rw (caught-run x 1 met) (own-satisfied (contextAt ds (x .bodies)) k (holes (x .trees)) (sym number ∙ e))
 
-  module _ (kind : n ≢ 0) (other : n ≢ 4) (typed : (ofWords k ≡ true) ⊎ AllSorted x) (met : 0 < m .held) where
-    all : AllSorted x
-    all = kind-typed k (λ z. kind (number ∙ z)) (λ z. other (number ∙ z)) typed
-
-    pub kind-met : {c : ℕ} → c ≡ classAt ds (take (length ws - startOf m 0) (drop (startOf m 0) ws)) maxDepth 0 → eqb c (3 + n) ≡ satisfied (contextAt ds (x .bodies)) k (holes (x .trees))
-    kind-met {c} e =
-        let h = caught-sort x 0 met all in
-        let W = bodies-well (well-formed ds (x .good)) (x .bodies) in
-        let a : conditionNumber k ≢ 0 = λ z. kind (number ∙ z) in
-        let b : conditionNumber k ≢ 4 = λ z. other (number ∙ z) in
-        let S = h .sorted .0 in
-        ap (λ (i : ℕ). eqb i (3 + n)) (class-is ds (x .bodies) (x .outer) _ h c e) ∙ ap (λ (i : ℕ). eqb (numberOf (shapeOf S .class)) (3 + i)) number
-        ∙ (kind-wanted S k a b ∙ sym (ap (wanted k) (sort-is W (h .sorted .1))) ∙ kind-satisfied k a b (contextAt ds (x .bodies)) (holes (x .trees)))
+  pub kind-met : n ≢ 0 → n ≢ 4 → (ofWords k ≡ true) ⊎ AllSorted x → 0 < m .held → {c : ℕ} → c ≡ classAt ds (take (length ws - startOf m 0) (drop (startOf m 0) ws)) maxDepth 0
+      → eqb c (3 + n) ≡ satisfied (contextAt ds (x .bodies)) k (holes (x .trees))
+  kind-met kind other typed met {c} e =
+      let o = of-kind k (λ z. kind (number ∙ z)) (λ z. other (number ∙ z)) in
+      let h = caught-sort x 0 met (⊎-elim (λ w. absurd (o .types w)) (λ a. a) typed) in
+      let W = bodies-well (well-formed ds (x .good)) (x .bodies) in
+      ap (λ (i : ℕ). eqb i (3 + n)) (class-is ds (x .bodies) (x .outer) _ h c e) ∙ ap (λ (i : ℕ). eqb (numberOf (shapeOf (h .sorted .0) .class)) (3 + i)) number
+      ∙ (o .class (h .sorted .0) ∙ sym (ap (wanted k) (sort-is W (h .sorted .1))) ∙ o .first (contextAt ds (x .bodies)) (holes (x .trees)))

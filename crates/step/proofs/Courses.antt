@@ -49,7 +49,8 @@ pub data Went (Γ : Context) (n : ℕ) (p : Sides) (ms : List Move) : Run → Ty
   all : {q : Sides} → AllTaken Γ p ms q → Went Γ n p ms (record { code = 0; side = 0; step = n + length ms; at = 0; sides = q })
   stop : {r : Run} → Stopped Γ n p ms r → Went Γ n p ms r
 
-further : {Γ : Context} {n : ℕ} {p : Sides} {u : Tree} {m : Move} {ms : List Move} {r : Run} → Taken Γ (chosen (m .side) p) (m .step) u → Went Γ (n + 1) (put (m .side) u p) ms r → Went Γ n p (m ∷ ms) r
+further : {Γ : Context} {n : ℕ} {p : Sides} {u : Tree} {m : Move} {ms : List Move} {r : Run} → Taken Γ (chosen (m .side) p) (m .step) u → Went Γ (n + 1) (put (m .side) u p) ms r
+    → Went Γ n p (m ∷ ms) r
 further {n} {m} {ms} k (all a) = let z : n + 1 + length ms ≡ n + length (m ∷ ms) = omega arith in rw z (all (one-more k a))
 further k (stop s) = stop (later k s)
 
@@ -109,4 +110,5 @@ unfolding runOf
 run-append Γ n p [] ys = let z : n + 0 ≡ n = omega arith in rw z
 run-append Γ n p (m ∷ xs) ys =
     let z : n + 1 + length xs ≡ n + length (m ∷ xs) = omega arith in
-    append-by (eqb (stepOf Γ (chosen (m .side) p) (m .step) .code) 0) _ _ _ (λ q. runOf Γ (n + length (m ∷ xs)) q ys) refl (rw z at (run-append Γ (n + 1) (put (m .side) (stepOf Γ (chosen (m .side) p) (m .step) .tree) p) xs ys))
+    append-by (eqb (stepOf Γ (chosen (m .side) p) (m .step) .code) 0) _ _ _ (λ q. runOf Γ (n + length (m ∷ xs)) q ys) refl
+    (rw z at (run-append Γ (n + 1) (put (m .side) (stepOf Γ (chosen (m .side) p) (m .step) .tree) p) xs ys))

@@ -16,7 +16,8 @@ use Rattle.step.specs.Answers.{answerTo, wordsLeft}
 use Rattle.step.specs.Examples.{declarations, slice, Examples}
 
 pub examples : Examples
-unfolding declarations cleared slice answerTo wordsLeft typingOf goodDeclarations isIndex isVariable contextIn declared stepOf inside later binds typeOf treeIn parse part read conclude word headOf words ruleOf subtree rewrite satisfied filled match isHead andThen hold replace count _⧺_ open-at behind removeAt collectAt collectBefore collected multipleOf
+unfolding declarations cleared slice answerTo wordsLeft typingOf goodDeclarations isIndex isVariable contextIn declared stepOf inside later binds typeOf treeIn parse part read conclude
+    word headOf words ruleOf subtree rewrite satisfied filled match isHead andThen hold replace count _⧺_ open-at behind removeAt collectAt collectBefore collected multipleOf
 examples = record {
   delta-of-one = (refl, refl);
   delta-of-two = refl;

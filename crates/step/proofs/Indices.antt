@@ -13,7 +13,7 @@ use Rattle.term.specs.Trees.{Tree, words}
 use Rattle.term.specs.Parts.{parse, treeIn}
 use Rattle.types.specs.Sorts.{Sort, index, basis, scalar, ket, bra, operator, Context}
 use Rattle.types.specs.Rules.{Proper, WellFormed}
-use Rattle.types.specs.TypeOf.{Typed, typed, untyped, typeOf}
+use Rattle.types.specs.TypeOf.{Inferred, typed, untyped, typeOf}
 use Rattle.types.proofs.Indices.{bodies-well}
 use Rattle.types.proofs.Complete.{complete}
 use Rattle.types.proofs.Proper.{proper, index-short}
@@ -48,7 +48,7 @@ module _ {Γ : Context} (W : WellFormed Γ) where
   sort-short false (bra σ) p = index-short W p
   sort-short false (operator σ τ) p = index-short W (p .0)
 
-  pub chosen-short : (b : Bool) (t : Tree) (T : Typed) → typeOf Γ 0 t ≡ T → length (words (chosenIndex b (sortIn T))) ≤ maxIndex
+  pub chosen-short : (b : Bool) (t : Tree) (T : Inferred) → typeOf Γ 0 t ≡ T → length (words (chosenIndex b (sortIn T))) ≤ maxIndex
   chosen-short b t (typed S) e = sort-short b S (proper W (sound W 0 t e))
   chosen-short b t (untyped k) e = sort-short b scalar tt
 

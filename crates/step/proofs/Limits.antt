@@ -18,6 +18,7 @@ use Rattle.term.proofs.Scan.{part-length}
 use Rattle.term.proofs.Places.{place, subtree-inside, subtree-formed, replace-formed, words-replace, length-replace, level-replace, depth-replace, level-words}
 use Rattle.rules.specs.Steps.{few, few*, within, limited}
 use Rattle.rules.proofs.Formed.{formed-few}
+use Rattle.families.specs.declared.writing.Replaced.{Replaced}
 use Rattle.families.specs.declared.writing.Rewritten.{Rewritten}
 use Rattle.step.specs.Code.Making.{Seated, Fresh, Made}
 
@@ -134,14 +135,18 @@ module _ {term : List ℕ} {at : ℕ} {deepens : Bool} {old : ℕ} {new : List �
   seat-flat e = omega (arith, f .flat e, part-fits)
 
 -- ---- a fresh part in its term
-module _ {term : List ℕ} {at end : ℕ} {deepens : Bool} {old : ℕ} {out : List ℕ} {new : ℕ} (f : Fresh term at end deepens old out new) where
+module _ {term : List ℕ} {at : ℕ} {made : Replaced} {out : List ℕ} (f : Fresh term at made out) where
+  -- where the part ends
+  abbrev end : ℕ
+  end = at + made .size
+
   abbrev whole : Tree
   whole = replace (f .tree) at (f .result)
 
   inside : at < length (words (f .tree))
   inside = subtree-inside (f .tree) at (f .part) (f .there)
 
-  -- where the part ends, and how long the whole becomes
+  -- it ends in the term, and so long the whole becomes
   pub end-inside : (at ≤ end) × (end ≤ length term) × (at ≤ length term)
   end-inside = omega (arith, ap length (f .is), f .ends, part-fits)
     where
@@ -164,11 +169,11 @@ module _ {term : List ℕ} {at end : ℕ} {deepens : Bool} {old : ℕ} {out : Li
   whole-few = few-replace (f .tree) at (f .result) (formed-few (f .tree) (f .formed)) (formed-few (f .result) (f .result-formed))
 
   -- the depth of the words that were written, and the level of the place
-  pub result-depth : length (words (f .result)) ≤ maxWords → partDepth (take new out) 0 ≡ depth (f .result)
+  pub result-depth : length (words (f .result)) ≤ maxWords → partDepth (take (made .written .end) out) 0 ≡ depth (f .result)
   unfolding partDepth firstDepth
   result-depth h = rw (f .written h, parse-tree (f .result) (f .result-formed))
 
-  pub seated : length (words (f .result)) ≤ maxWords → Seated term at deepens old (take new out)
+  pub seated : length (words (f .result)) ≤ maxWords → Seated term at (made .deepens) (made .depth) (take (made .written .end) out)
   seated h =
       record {
         tree = f .tree;
@@ -185,28 +190,29 @@ module _ {term : List ℕ} {at end : ℕ} {deepens : Bool} {old : ℕ} {out : Li
   place-level = rw (← f .is) (level-words (f .tree) at (f .formed) inside)
 
   -- ---- the four ends
-  refused-made : (out′ : List ℕ) (r : Rewritten) → limited (f .tree) whole ≡ record { code = 23; tree = f .tree } → length out′ ≡ maxWords → r .code ≡ 23 → Made (f .tree) (limited (f .tree) whole) at out′ r
-  refused-made out′ r e s c =
-      rw e (record { size = s; code = c; fits = λ z. absurd (omega (arith, z, c)); words-are = λ z. absurd (omega (arith, z, c)); stays = λ z. refl })
+  abbrev MadeIn : List ℕ → Rewritten → Type 0
+  MadeIn = Made (f .tree) (limited (f .tree) whole) at
 
-  pub made-long : (out′ : List ℕ) (r : Rewritten) → maxWords < new → length out′ ≡ maxWords → r .code ≡ 23 → Made (f .tree) (limited (f .tree) whole) at out′ r
-  made-long out′ r h = refused-made out′ r (too-long (f .tree) whole (omega (arith, whole-length, f .new-end)))
+  refused-made : (out′ : List ℕ) → limited (f .tree) whole ≡ record { code = 23; tree = f .tree } → length out′ ≡ maxWords → MadeIn out′ (record { code = 23; end = 0 })
+  refused-made out′ e s =
+      rw e (record { size = s; code = refl; fits = λ z. absurd (omega (arith, z)); words-are = λ z. absurd (omega (arith, z)); stays = λ z. refl })
 
-  pub made-behind : (out′ : List ℕ) (r : Rewritten) → maxWords < at + (length (words (f .result)) + (length term - end)) → length out′ ≡ maxWords → r .code ≡ 23
-      → Made (f .tree) (limited (f .tree) whole) at out′ r
-  made-behind out′ r h = refused-made out′ r (too-long (f .tree) whole (rw whole-length h))
+  pub made-long : (out′ : List ℕ) → maxWords < made .written .end → length out′ ≡ maxWords → MadeIn out′ (record { code = 23; end = 0 })
+  made-long out′ h = refused-made out′ (too-long (f .tree) whole (omega (arith, whole-length, f .new-end)))
 
-  pub made-deep : (out′ : List ℕ) (r : Rewritten) → maxDepth < level (f .tree) at + depth (f .result) → length out′ ≡ maxWords → r .code ≡ 23
-      → Made (f .tree) (limited (f .tree) whole) at out′ r
-  made-deep out′ r h = refused-made out′ r (too-deep (f .tree) whole (omega (arith, level-replace (f .tree) at (f .result) inside)))
+  pub made-behind : (out′ : List ℕ) → maxWords < at + (length (words (f .result)) + (length term - end)) → length out′ ≡ maxWords → MadeIn out′ (record { code = 23; end = 0 })
+  made-behind out′ h = refused-made out′ (too-long (f .tree) whole (rw whole-length h))
 
-  pub made-good : (out′ : List ℕ) (r : Rewritten) → length (words (f .result)) ≤ maxWords → level (f .tree) at + depth (f .result) ≤ maxDepth
-      → at + (length (words (f .result)) + (length term - end)) ≤ maxWords → Added out new (drop end term) out′ (r .end) → r .code ≡ 0 → Made (f .tree) (limited (f .tree) whole) at out′ r
-  made-good out′ r short shallow fits a c =
+  pub made-deep : (out′ : List ℕ) → maxDepth < level (f .tree) at + depth (f .result) → length out′ ≡ maxWords → MadeIn out′ (record { code = 23; end = 0 })
+  made-deep out′ h = refused-made out′ (too-deep (f .tree) whole (omega (arith, level-replace (f .tree) at (f .result) inside)))
+
+  pub made-good : {out′ : List ℕ} {e : ℕ} → length (words (f .result)) ≤ maxWords → level (f .tree) at + depth (f .result) ≤ maxDepth
+      → at + (length (words (f .result)) + (length term - end)) ≤ maxWords → Added out (made .written .end) (drop end term) out′ e → MadeIn out′ (record { code = 0; end = e })
+  made-good {out′} {e} short shallow fits a =
       let d = length-drop end term in
-      let n : new ≡ length (words (f .result)) = omega (arith, f .new-end) in
-      let e : r .end ≡ new + length (drop end term) = omega (arith, a .end, f .size, end-inside) in
-      let w : take (r .end) out′ ≡ words (f .result) ++ drop end term = rw e (a .front (omega (arith, f .size, end-inside)) ∙ rw (f .written short)) in
+      let n : made .written .end ≡ length (words (f .result)) = omega (arith, f .new-end) in
+      let l : e ≡ made .written .end + length (drop end term) = omega (arith, a .end, f .size, end-inside) in
+      let w : take e out′ ≡ words (f .result) ++ drop end term = rw l (a .front (omega (arith, f .size, end-inside)) ∙ rw (f .written short)) in
       let u : words whole ≡ take at (words (f .tree)) ++ (words (f .result) ++ drop end (words (f .tree))) = rw (f .ends) (words-replace (f .tree) at (f .part) (f .result) (f .there)) in
       rw (in-limits (f .tree) whole whole-few (rw whole-length fits) (omega (arith, depth-replace (f .tree) at (f .result), f .shallow)))
-      (record { size = a .size ∙ f .size; code = c; fits = λ z. omega (arith, e, n, d, end-inside); words-are = λ z. u ∙ rw (w, f .is); stays = λ z. absurd (z c) })
+      (record { size = a .size ∙ f .size; code = refl; fits = λ z. omega (arith, l, n, d, end-inside); words-are = λ z. u ∙ rw (w, f .is); stays = λ z. absurd (z refl) })

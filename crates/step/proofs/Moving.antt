@@ -72,7 +72,8 @@ module _ {ds ws : List ℕ} {n : ℕ} {S : Sort} {t : Tree} (x : Holding ds ws n
 
 -- ---- both
 module _ {ds left right : List ℕ} {n m : ℕ} {p : Sides} {S : Sort} (x : Ready ds left n right m p S) (s : Step) {code n′ size : ℕ} {ws′ : List ℕ} where
-  left-by : (told : Tells ds left n s code n′ ws′ size) (b : Bool) → eqb (stepOf (contextIn ds) (p .left) (asked s) .code) 0 ≡ b → Ready ds ws′ n′ right m (movedBy (contextIn ds) p (record { side = Left; step = asked s })) S
+  left-by : (told : Tells ds left n s code n′ ws′ size) (b : Bool) → eqb (stepOf (contextIn ds) (p .left) (asked s) .code) 0 ≡ b → Ready ds ws′ n′ right m
+      (movedBy (contextIn ds) p (record { side = Left; step = asked s })) S
   unfolding movedBy
   left-by told true e = rw e (record { left = held-after (x .left) s told; right = x .right })
   left-by told false e = rw e (record { left = held-before (x .left) s told (λ z. eqb-false _ _ e (sym (code-after (x .left) s told) ∙ z)); right = x .right })
@@ -81,7 +82,8 @@ module _ {ds left right : List ℕ} {n m : ℕ} {p : Sides} {S : Sort} (x : Read
       → (code ≡ stepOn (contextIn ds) p (record { side = Left; step = asked s }) .code) × Ready ds ws′ n′ right m (movedBy (contextIn ds) p (record { side = Left; step = asked s })) S
   moved-left told = (code-after (x .left) s told, left-by told _ refl)
 
-  right-by : (told : Tells ds right m s code n′ ws′ size) (b : Bool) → eqb (stepOf (contextIn ds) (p .right) (asked s) .code) 0 ≡ b → Ready ds left n ws′ n′ (movedBy (contextIn ds) p (record { side = Right; step = asked s })) S
+  right-by : (told : Tells ds right m s code n′ ws′ size) (b : Bool) → eqb (stepOf (contextIn ds) (p .right) (asked s) .code) 0 ≡ b → Ready ds left n ws′ n′
+      (movedBy (contextIn ds) p (record { side = Right; step = asked s })) S
   unfolding movedBy
   right-by told true e = rw e (record { left = x .left; right = held-after (x .right) s told })
   right-by told false e = rw e (record { left = x .left; right = held-before (x .right) s told (λ z. eqb-false _ _ e (sym (code-after (x .right) s told) ∙ z)) })

@@ -34,8 +34,8 @@ use Rattle.families.specs.Writing.{keepsDepth}
 use Rattle.families.proofs.Depths.{same-depth}
 use Rattle.rules.proofs.Steps.{step-keeps-type}
 use Rattle.step.specs.Answers.{stepIn, stepped, answerTo, wordsLeft}
-use Rattle.step.specs.Code.Making.{Made}
-use Rattle.step.specs.Previews.{typingAfter, previewOf, shown}
+use Rattle.step.specs.Code.Making.{Made, shown}
+use Rattle.step.specs.Previews.{typingAfter, previewOf}
 use Rattle.step.specs.Statements.{Previews}
 use Rattle.step.proofs.Held.{its-step, its-type, held-typed}
 use Rattle.step.proofs.Theorems.{entry, refusals}
@@ -159,15 +159,17 @@ module _ (ds ws : List ℕ) (n : ℕ) (accepted : typingOf ds ws n .code ≡ 0) 
       e ∙ preview-of h s (sym z ∙ m .code) (new-length ds ws n accepted s out r m z) d (ap (λ (a : Typing). a .of) is)
 
 -- two runs of words in one slice
-pub both-there : (out front back : List ℕ) {mid all : List ℕ} {m e : ℕ} → (m ≡ min (0 + length front) (length out + 1)) × (mid ≡ laid out 0 front) → (e ≡ min (m + length back) (length mid + 1)) × (all ≡ laid mid m back)
-    → length front + length back ≤ length out → (e ≤ length all) × (take e all ≡ front ++ back)
+pub both-there : (out front back : List ℕ) {mid all : List ℕ} {m e : ℕ} → (m ≡ min (0 + length front) (length out + 1)) × (mid ≡ laid out 0 front)
+    → (e ≡ min (m + length back) (length mid + 1)) × (all ≡ laid mid m back)
+    → length front + length back ≤ length out → (e ≤ length all) × (take e all ≡ front ++ back) × (all ≡ laid (laid out 0 front) (length front) back)
 both-there out front back {mid} {all} {m} {e} p q h =
     let a = added-both (appended p) (appended q) in
     let l = length-append front back in
     let end = a .end in
     let size = a .size in
     let z : e ≡ 0 + length (front ++ back) = omega arith in
-    (omega arith, rw z (a .front (omega arith)))
+    let n : m ≡ length front = omega (arith, p .0) in
+    (omega arith, rw z (a .front (omega arith)), rw (← p .1, ← n) (q .1))
 
 -- ---- the statement
 pub previews : Previews

@@ -34,18 +34,19 @@ use Rattle.rules.proofs.Steps.{run-keeps-meaning, run-proves}
 use Rattle.step.specs.declared.run.Answer as A
 use Rattle.lent.specs.declared.faults.Fault.{Fault}
 use Rattle.step.specs.Answers.{held}
-use Rattle.lent.specs.Lent.{moveIn, movesIn}
+use Rattle.lent.specs.Lent.{Derivation, moveIn, movesIn}
 use Rattle.lent.specs.Faults.{fault, faultIn}
 use Rattle.step.specs.Runs.{compared, answered, runFrom, runIn, runAnswer, slice, leftAfter, rightAfter}
-use Rattle.step.specs.Derivations.{AllTaken, Accepted, Decision, untouched, refused, stopped, differ, accepted, Kept}
-use Rattle.lent.specs.Refusals.{Refused, wrong-size, bad-declarations, no-term, bad-steps, left-stray, left-untyped, left-no-type, right-stray, right-untyped, right-no-type, types-differ, Begun, Judged, found, none}
+use Rattle.step.specs.Derivations.{AllTaken, Accepted, Decision, untouched, refused, stopped, differ, accepted, RunKept}
+use Rattle.lent.specs.Refusals.{Refused, wrong-size, bad-declarations, no-term, bad-steps, left-stray, left-untyped, left-no-type, right-stray, right-untyped, right-no-type, types-differ}
+use Rattle.lent.specs.Refusals.{Begun, Judged, found, none}
 use Rattle.step.specs.Statements.{Accepts, Decides, Keeps, Proves, Pieces}
 use Rattle.step.proofs.Held.{its-type}
 use Rattle.step.proofs.Alike.{alike}
 use Rattle.step.proofs.Begun as B
 use Rattle.step.proofs.Begun.{start}
-use Rattle.lent.proofs.Tests.{its-tree, fitting}
-use Rattle.lent.proofs.Judging.{held-of, not-both, judges}
+use Rattle.lent.proofs.Tests.{its-tree}
+use Rattle.lent.proofs.Judging.{held-of, not-both, refused-codes, judges}
 use Rattle.step.proofs.Courses.{Both, all-typed, stopped-typed, all-run, Went, all, stop, went, stopped-code, run-append}
 
 -- ---- a term is one tree
@@ -66,54 +67,54 @@ cleared-all : (ws : List ℕ) → replicate (length ws) 0 ≡ cleared ws 0
 unfolding cleared
 cleared-all ws = let z : length ws - 0 ≡ length ws = omega arith in rw z
 
-module _ (ds left : List ℕ) (n : ℕ) (right : List ℕ) (m : ℕ) (steps : List ℕ) (count : ℕ) where
+module _ (d : Derivation) where
   abbrev moves : List Move
-  moves = movesIn steps count
+  moves = movesIn (d .steps) (d .count)
 
   abbrev Γ : Context
-  Γ = contextIn ds
+  Γ = contextIn (d .ds)
 
   abbrev Begins : Sides → Sort → Type 0
-  Begins p S = Begun ds left n right m steps count p S
+  Begins p S = Begun d p S
 
   abbrev first : Sides
-  first = start ds left n right m steps count
+  first = start d
 
-  counted : length moves ≡ count
+  counted : length moves ≡ d .count
   unfolding movesIn
-  counted = length-upTo count (moveIn steps)
+  counted = length-upTo (d .count) (moveIn (d .steps))
 
   both : {p : Sides} {S : Sort} → Begins p S → Both Γ S p
   both b = record { left = its-type (b .left-term); right = its-type (b .right-term) }
 
   -- ---- where both terms have one type and the steps are in order, there is no fault
   well : {p : Sides} {S : Sort} → Begins p S → WellFormed Γ
-  well b = well-formed ds (b .left-term .good)
+  well b = well-formed (d .ds) (b .left-term .good)
 
-  at-odds : {c s k : ℕ} {p : Sides} {S : Sort} → Refused ds left n right m steps count c s k → Begins p S → ⊥
+  at-odds : {c s k : ℕ} {p : Sides} {S : Sort} → Refused d c s k → Begins p S → ⊥
   at-odds (wrong-size x) b = x (b .left-term .size, b .right-term .size)
   at-odds (bad-declarations x e) b = let f = b .left-term .good in let z : _≡_ {A = ℕ} 0 1 = cc in omega arith
   at-odds (no-term x g h) b = h _ _ (held-of (b .left-term), held-of (b .right-term))
   at-odds (bad-steps x h) b = h (b .order)
   at-odds {S} (left-stray x o f) b = typed-no-stray Γ (well b) _ S (rules-at (x .0) (b .left-term)) _ (f .there) (f .is) (f .stray)
   at-odds {S} (left-untyped x o n h f) b = h (S, rules-at (x .0) (b .left-term))
-  at-odds (left-no-type x o d h) b = h (rw (unique (well b) d (rules-at (x .0) (b .left-term))) (b .left-term .isType))
+  at-odds (left-no-type x o e h) b = h (rw (unique (well b) e (rules-at (x .0) (b .left-term))) (b .left-term .isType))
   at-odds {S} (right-stray x o t f) b = typed-no-stray Γ (well b) _ S (rules-at (x .1) (b .right-term)) _ (f .there) (f .is) (f .stray)
   at-odds {S} (right-untyped x o t n h f) b = h (S, rules-at (x .1) (b .right-term))
-  at-odds (right-no-type x o t d h) b = h (rw (unique (well b) d (rules-at (x .1) (b .right-term))) (b .right-term .isType))
+  at-odds (right-no-type x o t e h) b = h (rw (unique (well b) e (rules-at (x .1) (b .right-term))) (b .right-term .isType))
   at-odds (types-differ o h k x) b = x (same-sort h (b .left-term) ∙ sym (same-sort k (b .right-term)))
 
-  no-fault-by : {f : Fault} {p : Sides} {S : Sort} → Judged ds left n right m steps count f → Begins p S → f .code ≡ 0
+  no-fault-by : {f : Fault} {p : Sides} {S : Sort} → Judged d f → Begins p S → f .code ≡ 0
   no-fault-by (found x h) b = absurd (at-odds x b)
   no-fault-by (none x) b = refl
 
-  no-fault : {p : Sides} {S : Sort} → Begins p S → faultIn ds left n right m steps count .code ≡ 0
-  no-fault b = no-fault-by (judges ds left n right m steps count) b
+  no-fault : {p : Sides} {S : Sort} → Begins p S → faultIn d .code ≡ 0
+  no-fault b = no-fault-by (judges d) b
 
   -- ---- every answer
   slices : {p : Sides} {S : Sort} → Begins p S
-      → (leftAfter ds left n right m steps count ≡ held (runIn ds left n right m steps count .sides .left)) × (rightAfter ds left n right m steps count ≡ held (runIn ds left n right m steps count .sides .right))
-      × (runAnswer ds left n right m steps count ≡ answered (runIn ds left n right m steps count))
+      → (leftAfter d ≡ held (runIn d .sides .left)) × (rightAfter d ≡ held (runIn d .sides .right))
+      × (runAnswer d ≡ answered (runIn d))
   unfolding leftAfter rightAfter slice runAnswer
   slices b = (rw (no-fault b), rw (no-fault b), rw (no-fault b))
 
@@ -121,77 +122,74 @@ module _ (ds left : List ℕ) (n : ℕ) (right : List ℕ) (m : ℕ) (steps : Li
   same-end {q} b e = one-reading (q .left) (q .right) (b .left .form .formed) (b .right .form .formed) e
 
   ends-by : {p q : Sides} {S : Sort} (b : Bool) → Begins p S → AllTaken Γ p moves q → sameWords (words (q .left)) (words (q .right)) ≡ b
-      → Decision ds left n right m steps count (compared (words (q .left)) (length (words (q .left))) (words (q .right)) (length (words (q .right))) count) (held (q .left)) (held (q .right))
+      → Decision d (compared (words (q .left)) (length (words (q .left))) (words (q .right)) (length (words (q .right))) (d .count)) (held (q .left)) (held (q .right))
   unfolding compared
   ends-by {p} {q} {S} true b a e =
       rw e
       (accepted
-      (record { start = p; end = q; sort = S; left-term = b .left-term; right-term = b .right-term; order = b .order; taken = a; same = same-end (all-typed (well-formed ds (b .left-term .good)) (both b) a) (same-words-eq _ _ e) }))
+      (record {
+        start = p;
+        end = q;
+        sort = S;
+        left-term = b .left-term;
+        right-term = b .right-term;
+        order = b .order;
+        taken = a;
+        same = same-end
+            (all-typed (well-formed (d .ds) (b .left-term .good)) (both b) a) (same-words-eq _ _ e);
+      }))
   ends-by {q} false b a e =
-      let t = all-typed (well-formed ds (b .left-term .good)) (both b) a in
-      let d = first-difference (q .left) (q .right) (t .left .form .formed) (t .right .form .formed) (λ z. not-both e (rw z (same-words (words (q .right))))) in
-      rw e (differ b a (record { in-both = d; before = agreeing-take _ _; there = agreeing-differ _ _ (d .0) (d .1) }))
+      let t = all-typed (well-formed (d .ds) (b .left-term .good)) (both b) a in
+      let w = first-difference (q .left) (q .right) (t .left .form .formed) (t .right .form .formed) (λ z. not-both e (rw z (same-words (words (q .right))))) in
+      rw e (differ b a (record { in-both = w; before = agreeing-take _ _; there = agreeing-differ _ _ (w .0) (w .1) }))
 
-  run-by : {p : Sides} {S : Sort} {r : Run} → Begins p S → Went Γ 0 p moves r → Decision ds left n right m steps count (answered r) (held (r .sides .left)) (held (r .sides .right))
+  run-by : {p : Sides} {S : Sort} {r : Run} → Begins p S → Went Γ 0 p moves r → Decision d (answered r) (held (r .sides .left)) (held (r .sides .right))
   unfolding answered
   run-by b (all a) = rw (counted, zero-add) (ends-by _ b a refl)
   run-by b (stop s) = rw (ne-eqb _ 0 (stopped-code s)) (stopped b s)
 
   -- the run from the sides that the slices hold
-  run-at : {p : Sides} {S : Sort} → Begins p S → runIn ds left n right m steps count ≡ runOf Γ 0 p moves
+  run-at : {p : Sides} {S : Sort} → Begins p S → runIn d ≡ runOf Γ 0 p moves
   unfolding runIn
   run-at b = rw (its-tree (b .left-term), its-tree (b .right-term))
 
-  found-by : {c s k : ℕ} (one : Bool) → eqb c 1 ≡ one → Refused ds left n right m steps count c s k → c ≢ 0 → fault c s k ≡ faultIn ds left n right m steps count
-      → Decision ds left n right m steps count (runAnswer ds left n right m steps count) (leftAfter ds left n right m steps count) (rightAfter ds left n right m steps count)
+  found-by : {c s k : ℕ} (one : Bool) → eqb c 1 ≡ one → Refused d c s k → c ≢ 0 → fault c s k ≡ faultIn d
+      → Decision d (runAnswer d) (leftAfter d) (rightAfter d)
   found-by true o x h e =
       let z = eqb-true _ 1 o in
-      let u = B.untouched ds left n right m steps count _ e _ refl z in rw (← u .0, ← u .1, ← u .2, z) (untouched (rw z at x))
+      let u = B.untouched d _ e _ refl z in rw (← u .0, ← u .1, ← u .2, z) (untouched (rw z at x))
   found-by false o x h e =
       let k = eqb-false _ 1 o in
-      let u = B.all-zeros ds left n right m steps count _ e _ refl _ _ k h (cleared-all left) (cleared-all right) in rw (← u .0, ← u .1, ← u .2) (refused k x)
+      let u = B.all-zeros d _ e _ refl _ _ k h (cleared-all (d .left)) (cleared-all (d .right)) in rw (← u .0, ← u .1, ← u .2) (refused k x)
 
-  view-by : {f : Fault} → Judged ds left n right m steps count f → f ≡ faultIn ds left n right m steps count
-      → Decision ds left n right m steps count (runAnswer ds left n right m steps count) (leftAfter ds left n right m steps count) (rightAfter ds left n right m steps count)
+  view-by : {f : Fault} → Judged d f → f ≡ faultIn d
+      → Decision d (runAnswer d) (leftAfter d) (rightAfter d)
   unfolding runIn
   view-by (found {c} x h) e = found-by (eqb c 1) refl x h e
-  view-by (none {p} b) e = let s = slices b in rw (s .0, s .1, s .2, run-at b) (run-by b (went (well-formed ds (b .left-term .good)) 0 p (both b) moves))
+  view-by (none {p} b) e = let s = slices b in rw (s .0, s .1, s .2, run-at b) (run-by b (went (well-formed (d .ds) (b .left-term .good)) 0 p (both b) moves))
 
   -- ---- the accepted ones
-  refused-code : {c s k : ℕ} → Refused ds left n right m steps count c s k → c ≢ 0
-  refused-code (wrong-size x) = omega arith
-  refused-code (bad-declarations x e) = omega arith
-  refused-code (no-term x g h) = omega arith
-  refused-code (bad-steps x h) = λ e. h (fitting steps count e)
-  refused-code (left-stray x o f) = omega arith
-  refused-code (left-untyped x o n h f) = omega arith
-  refused-code (left-no-type x o d h) = omega arith
-  refused-code (right-stray x o t f) = omega arith
-  refused-code (right-untyped x o t n h f) = omega arith
-  refused-code (right-no-type x o t d h) = omega arith
-  refused-code (types-differ o h k x) = omega arith
-
-  accepted-by : {r : A.Answer} {l u : List ℕ} → Decision ds left n right m steps count r l u → r .code ≡ 0 → Accepted ds left n right m steps count
+  accepted-by : {r : A.Answer} {l u : List ℕ} → Decision d r l u → r .code ≡ 0 → Accepted d
   accepted-by (untouched x) e = absurd (omega arith)
-  accepted-by (refused h x) e = absurd (refused-code x e)
+  accepted-by (refused h x) e = absurd (refused-codes x .0 e)
   accepted-by (stopped b s) e = absurd (stopped-code s e)
-  accepted-by (differ b a d) e = absurd (omega arith)
+  accepted-by (differ b a w) e = absurd (omega arith)
   accepted-by (accepted a) e = a
 
-  begins : (a : Accepted ds left n right m steps count) → Begins (a .start) (a .sort)
+  begins : (a : Accepted d) → Begins (a .start) (a .sort)
   begins a = record { left-term = a .left-term; right-term = a .right-term; order = a .order }
 
-  run-all : (a : Accepted ds left n right m steps count) → runOf Γ 0 (a .start) moves ≡ record { code = 0; side = 0; step = 0 + length moves; at = 0; sides = a .end }
-  run-all a = all-run (well-formed ds (a .left-term .good)) 0 (both (begins a)) (a .taken)
+  run-all : (a : Accepted d) → runOf Γ 0 (a .start) moves ≡ record { code = 0; side = 0; step = 0 + length moves; at = 0; sides = a .end }
+  run-all a = all-run (well-formed (d .ds) (a .left-term .good)) 0 (both (begins a)) (a .taken)
 
-  accepted-code : Accepted ds left n right m steps count → runAnswer ds left n right m steps count .code ≡ 0
+  accepted-code : Accepted d → runAnswer d .code ≡ 0
   unfolding answered compared
   accepted-code a = rw (slices (begins a) .2, run-at (begins a), run-all a, a .same, same-words (words (a .end .right)))
 
   -- ---- what the sides stand for
   module _ {p : Sides} {S : Sort} (b : Begins p S) where
     abbrev W : WellFormed Γ
-    W = well-formed ds (b .left-term .good)
+    W = well-formed (d .ds) (b .left-term .good)
 
     abbrev end : Sides
     end = runOf Γ 0 p moves .sides
@@ -208,7 +206,7 @@ module _ (ds left : List ℕ) (n : ℕ) (right : List ℕ) (m : ℕ) (steps : Li
     lengths-by true r e = (rw e, rw e)
     lengths-by false r e = (rw e, rw e)
 
-    kept : Kept ds left n right m steps count p S end
+    kept : RunKept d p S end
     kept =
         let s = slices b in
         let l = lengths-by _ (runOf Γ 0 p moves) refl in
@@ -222,20 +220,20 @@ module _ (ds left : List ℕ) (n : ℕ) (right : List ℕ) (m : ℕ) (steps : Li
         }
 
 pub accepts : Accepts
-accepts ds left n right m steps count = (accepted-by ds left n right m steps count (view-by ds left n right m steps count (judges ds left n right m steps count) refl), accepted-code ds left n right m steps count)
+accepts d = (accepted-by d (view-by d (judges d) refl), accepted-code d)
 
 pub keeps : Keeps
-keeps ds left n right m steps count p S b = (_, kept ds left n right m steps count b)
+keeps d p S b = (_, kept d b)
 
 pub proves : Proves
-proves ds left n right m steps count a =
-    let W = well-formed ds (a .left-term .good) in
-    let e : let q = runOf (contextIn ds) 0 (a .start) (movesIn steps count) .sides in q .left ≡ q .right = rw (run-all ds left n right m steps count a) (a .same) in
+proves d a =
+    let W = well-formed (d .ds) (a .left-term .good) in
+    let e : let q = runOf (contextIn (d .ds)) 0 (a .start) (movesIn (d .steps) (d .count)) .sides in q .left ≡ q .right = rw (run-all d a) (a .same) in
     alike W (a .left-term .isType) (its-type (a .left-term)) (its-type (a .right-term))
-    (λ R 𝓐 𝓡 χ F. run-proves 𝓡 (contextIn ds) χ W F (a .sort) (a .start) (its-type (a .left-term)) (its-type (a .right-term)) 0 (movesIn steps count) e)
+    (λ R 𝓐 𝓡 χ F. run-proves 𝓡 (contextIn (d .ds)) χ W F (a .sort) (a .start) (its-type (a .left-term)) (its-type (a .right-term)) 0 (movesIn (d .steps) (d .count)) e)
 
 pub decides : Decides
-decides ds left n right m steps count = view-by ds left n right m steps count (judges ds left n right m steps count) refl
+decides d = view-by d (judges d) refl
 
 -- ---- pieces
 pub pieces : Pieces

@@ -4,7 +4,7 @@ use mathlib.Core.List.{List, _++_, append-assoc}
 use Prim.Native.Nat.{ℕ, _-_, _≤_, _<_}
 use native.Mathlib.Omega.{arith}
 use lib.ListN.{length, take, drop, length-append, length-drop, take-append-drop}
-use lib.Seq.{drop-at, take-at, take-append-le, drop-append-le}
+use lib.Seq.{drop-at, take-append-le, drop-append-le}
 use Rattle.term.specs.Trees.{Tree, words, Formed, found, subtree}
 use Rattle.term.specs.Terms.{maxDepth}
 use Rattle.term.proofs.Parsing.{some-words, prefix-free}
@@ -59,11 +59,3 @@ module _ {ds term : List ℕ} {place : ℕ} {ws : List ℕ} (s : Site ds term pl
 
   abbrev pub caught : Caught ds ws m
   caught = record { good = s .good; bodies = s .bodies; outer = outerAt term place; bound = s .bound; trees = d; holds = h; begins = λ k l. hole-begins k l }
-
--- ---- the part's own words
-module _ {ds term : List ℕ} {place : ℕ} {ws : List ℕ} (s : Site ds term place ws) {end : ℕ} (e : end ≡ length (words (s .tree))) where
-  pub site-end : end ≤ length ws
-  site-end = omega (arith, e, ap length (s .whole), length-append (words (s .tree)) (s .after))
-
-  pub site-words : take end ws ≡ words (s .tree)
-  site-words = rw (s .whole) (take-at (words (s .tree)) (s .after) end (sym e))

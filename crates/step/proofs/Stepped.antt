@@ -10,7 +10,7 @@ use native.Mathlib.Nat.{zero-add}
 use native.Mathlib.Omega.{arith}
 use borrow.Author.Tests.{lt-ltb, le-ltb}
 use lib.Dec.{leb}
-use lib.ListN.{length, take, drop, length-append, length-drop}
+use lib.ListN.{length, drop, length-append}
 use lib.Seq.{drop-at}
 use Rattle.words.specs.Words.{Added}
 use Rattle.words.proofs.Runs.{to-end}
@@ -35,16 +35,15 @@ use Rattle.rulebook.specs.declared.Row.{Row}
 use Rattle.rulebook.specs.Code.Rows.{rowOf}
 use Rattle.families.specs.declared.writing.Rewritten.{Rewritten}
 use Rattle.families.specs.declared.writing.Replaced.{Replaced}
-use Rattle.families.specs.Writing.{mayDeepen, Writes, Measures}
+use Rattle.families.specs.Writing.{mayDeepen, Measures}
 use Rattle.families.proofs.Depths.{no-deeper}
 use Rattle.families.proofs.Written.{Way, refused, done, exceeded, way, way-size}
 use Rattle.families.proofs.Lines.{Ruled, unruled}
 use Rattle.shapes.specs.Bodies.{indexBy, back, boundIn, outerAt, Bound}
 use Rattle.shapes.proofs.Theorems.{bound-inside}
 use Rattle.step.specs.Code.Making.{Termed, Fresh, Made}
-use Rattle.step.specs.Code.Site.{Site}
+use Rattle.step.specs.Code.Site.{wordsFrom, Site, Promise}
 use Rattle.step.proofs.Limits.{too-many}
-use Rattle.step.proofs.Sited.{site-end}
 
 -- ---- the tests of `stepOf`
 module _ (Γ : Context) (t : Tree) (s : Step) where
@@ -78,10 +77,6 @@ module _ {ds term : List ℕ} (x : Termed ds term) (k : ℕ) (below : k < length
   there : subtree (x .tree) k ≡ found (place (x .tree) k within-words .here)
   there = place (x .tree) k within-words .is
 
-  -- the words from the place on
-  abbrev tail : List ℕ
-  tail = take (length term - k) (drop k term)
-
   -- the context there, by what is bound around
   there-context : inside (contextIn ds) (x .tree) k ≡ contextAt ds (inside (contextIn ds) (x .tree) k .bound)
   there-context = inside-bodies (contextIn ds) (x .tree) k
@@ -90,7 +85,7 @@ module _ {ds term : List ℕ} (x : Termed ds term) (k : ℕ) (below : k < length
   unfolding outerAt boundIn indexBy back contextIn
   there-bound = bound-inside (contextIn ds) refl (x .tree) k term [] (x .typed .form .formed) within-words (sym (append-nil (words (x .tree)) ∙ x .is))
 
-  pub site : Site ds term k tail
+  pub site : Site ds term k (wordsFrom term k)
   site =
       let p = place (x .tree) k within-words in
       let d = part-typed (well-formed ds (x .good)) (x .tree) k (p .here) (x .sort) (x .typed .rules) (p .is) in
@@ -116,15 +111,12 @@ module _ {ds term : List ℕ} (x : Termed ds term) (k : ℕ) (below : k < length
   site-context = sym there-context
 
   -- and where the part ends in them
-  site-part : (part tail 0 ≡ words (site .tree)) × (partDepth tail 0 ≡ depth (site .tree))
+  site-part : (part (wordsFrom term k) 0 ≡ words (site .tree)) × (partDepth (wordsFrom term k) 0 ≡ depth (site .tree))
   unfolding part partDepth first firstDepth
   site-part = rw (site .whole, parse-words (site .tree) (site .formed) (site .after)) (refl, refl)
 
-  site-size : (end : ℕ) → end ≡ length (part tail 0) → end ≡ length (words (site .tree))
+  site-size : (end : ℕ) → end ≡ length (part (wordsFrom term k) 0) → end ≡ length (words (site .tree))
   site-size end e = e ∙ ap length (site-part .0)
-
-  pub site-room : (end : ℕ) → end ≡ length (part tail 0) → k + end ≤ maxWords
-  site-room end e = omega (arith, below, site-end site (site-size end e), ap length (to-end term k), length-drop k term, x .typed .form .short, ap length (x .is))
 
 -- ---- a result with too many children somewhere has them in its place too
 mutual
@@ -167,13 +159,11 @@ module _ {ds term : List ℕ} (x : Termed ds term) (s : Step) where
     pub made-21 : {row : Row} → Ruled row (s .rule) → length term ≤ s .place → r .code ≡ 21 → MadeBy out r
     made-21 k h = refused-by 21 (step-21 (contextIn ds) (x .tree) s (k .is) (outside-by (x .tree) (s .place) (rw (x .is) h) _ refl)) (omega arith)
 
-  -- what rewriting a part promises of the scratch slice
-  abbrev Promise : List ℕ → List ℕ → Rewritten → Type 0
-  Promise old out r =
-      (z : Site ds term (s .place) (take (length term - s .place) (drop (s .place) term))) (rule : Rule) → ruleOf (s .rule) ≡ some rule
-      → Writes (rewrite (contextAt ds (z .bodies)) rule (s .i) (s .j) (z .tree)) old 0 out r
+  module _ {row : Row} (k : Ruled row (s .rule)) (below : s .place < length term) (old : List ℕ) (size : length old ≡ maxWords) (out : List ℕ) (m : Replaced)
+      (promise : Promise ds term s old out (m .written)) where
+    abbrev r : Rewritten
+    r = m .written
 
-  module _ {row : Row} (k : Ruled row (s .rule)) (below : s .place < length term) (old : List ℕ) (size : length old ≡ maxWords) (out : List ℕ) (r : Rewritten) (promise : Promise old out r) where
     abbrev here : Tree
     here = place (x .tree) (s .place) (within-words x (s .place) below) .here
 
@@ -186,14 +176,14 @@ module _ {ds term : List ℕ} (x : Termed ds term) (s : Step) where
     is-there : subtree (x .tree) (s .place) ≡ found here
     is-there = there x (s .place) below
 
-    its-way : Way old 0 out r result
+    its-way : Way old out r result
     its-way = way result (rw (site-tree x (s .place) below, site-context x (s .place) below) at (promise (site x (s .place) below) (k .rule) (k .is)))
 
     out-size : length out ≡ maxWords
     out-size = way-size its-way ∙ size
 
     -- where the rewriting refused
-    made-22-by : {o : Option Tree} → Way old 0 out r o → result ≡ o → r .code ≢ 0 → MadeBy out r
+    made-22-by : {o : Option Tree} → Way old out r o → result ≡ o → r .code ≢ 0 → MadeBy out r
     made-22-by (refused c l) e h = refused-by out r out-size 22 (step-22 (contextIn ds) (x .tree) s (k .is) is-there e) (omega arith) c
     made-22-by (done q f c a) e h = absurd (h c)
     made-22-by (exceeded q f c l) e h =
@@ -214,9 +204,9 @@ module _ {ds term : List ℕ} (x : Termed ds term) (s : Step) where
         typed-formed X (rule-keeps X (s .rule) (k .rule) (k .is) (s .i) (s .j) here q (p .0) i (p .1)) f
 
     -- and where it did not, with what is told of the part
-    module _ {m : Replaced} (part-is : Measures (s .rule) (take (length term - s .place) (drop (s .place) term)) m) where
+    module _ (part-is : Measures (s .rule) (wordsFrom term (s .place)) m) where
       pub record Fine : Type 0 where
-        pub fresh : Fresh term (s .place) (s .place + m .size) (m .deepens) (m .depth) out (r .end)
+        pub fresh : Fresh term (s .place) m out
         same : fresh .tree ≡ x .tree
         steps : after ≡ limited (fresh .tree) (replace (fresh .tree) (s .place) (fresh .result))
 
@@ -229,7 +219,7 @@ module _ {ds term : List ℕ} (x : Termed ds term) (s : Step) where
       stays-flat : (q : Tree) → result ≡ some q → m .deepens ≡ false → depth q ≤ depth here
       stays-flat q e z = no-deeper (k .rule) (sym deepens-is ∙ z) Δ (s .i) (s .j) here q e
 
-      fresh-of : (q : Tree) → result ≡ some q → few q ≡ true → Added old 0 (words q) out (r .end) → Fresh term (s .place) (s .place + m .size) (m .deepens) (m .depth) out (r .end)
+      fresh-of : (q : Tree) → result ≡ some q → few q ≡ true → Added old 0 (words q) out (m .written .end) → Fresh term (s .place) m out
       fresh-of q e f a =
           record {
             tree = x .tree;
@@ -239,17 +229,17 @@ module _ {ds term : List ℕ} (x : Termed ds term) (s : Step) where
             shallow = x .typed .form .shallow;
             part = here;
             there = is-there;
-            ends = ap (λ (n : ℕ). s .place + n) (rw (site-tree x (s .place) below) at (site-size x (s .place) below (m .size) (part-is .size)));
+            ends = rw (site-tree x (s .place) below) at (site-size x (s .place) below (m .size) (part-is .size));
             was = was-deep;
             result = q;
             result-formed = result-formed q e f;
             flat = stays-flat q e;
             size = out-size;
             new-end = rw (size, zero-add) at (a .end);
-            written = λ l. let n : r .end ≡ 0 + length (words q) = omega (arith, a .end, size) in rw n (a .front (omega (arith, size)));
+            written = λ l. let n : m .written .end ≡ 0 + length (words q) = omega (arith, a .end, size) in rw n (a .front (omega (arith, size)));
           }
 
-      fine-by : {o : Option Tree} → Way old 0 out r o → result ≡ o → r .code ≡ 0 → Fine
+      fine-by : {o : Option Tree} → Way old out r o → result ≡ o → r .code ≡ 0 → Fine
       unfolding fresh-of
       fine-by (refused c l) e z = absurd (omega (arith, c, z))
       fine-by (done q f c a) e z = record { fresh = fresh-of q e f a; same = refl; steps = step-limited (contextIn ds) (x .tree) s (k .is) is-there e }

@@ -26,7 +26,7 @@ use Rattle.lent.specs.declared.steps.Step.{Step}
 use Rattle.step.specs.declared.single.Answer.{Answer}
 use Rattle.families.specs.declared.writing.Rewritten.{Rewritten}
 use Rattle.lent.specs.Lent.{asked}
-use Rattle.step.specs.Answers.{held, stepIn, refusal, stepped, answerTo, wordsLeft}
+use Rattle.step.specs.Answers.{held, stepIn, stepRefusal, stepped, answerTo, wordsLeft}
 use Rattle.step.specs.Code.Making.{Termed, Made}
 use Rattle.step.proofs.Theorems.{refusals}
 use Rattle.step.proofs.Held.{accepted-code, its-step, its-type}
@@ -177,7 +177,7 @@ module _ (ds ws : List ℕ) (n : ℕ) (accepted : typingOf ds ws n .code ≡ 0) 
     entry-done = (rw (accepted, at-is, code-is, length-is), rw accepted slice-is)
 
 -- ---- and where typing refused
-module _ (ds ws : List ℕ) (n : ℕ) (s : Step) (T : Typing) (r : Answer) (is : T ≡ typingOf ds ws n) (answer : r ≡ refusal (T .code) (T .at)) where
+module _ (ds ws : List ℕ) (n : ℕ) (s : Step) (T : Typing) (r : Answer) (is : T ≡ typingOf ds ws n) (answer : r ≡ stepRefusal (T .code) (T .at)) where
   pub untouched : T .code ≡ 1 → (r ≡ answerTo ds ws n s) × (ws ≡ wordsLeft ds ws n s)
   untouched h =
       let f = refusals ds ws n (rw (← is) (omega arith)) s in

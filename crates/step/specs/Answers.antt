@@ -30,8 +30,8 @@ stepIn ds ws n s = R.stepOf (contextIn ds) (treeIn (parse (take n ws))) (asked s
 
 -- 01: "They test 1; 7 for bad declarations; 8, also for a length that is not the term's; 10; 11. Side is 0, at is 0 for 7 and 8", step 0 and length 0; 02, CR 1: "single step and typing included, 13
 -- is as 10"
-abbrev pub refusal : ℕ → ℕ → A.Answer
-refusal code at = record { code = code; side = 0; step = 0; at = at; length = 0 }
+abbrev pub stepRefusal : ℕ → ℕ → A.Answer
+stepRefusal code at = record { code = code; side = 0; step = 0; at = at; length = 0 }
 
 -- "step is 1 from 20 on and for a good step"; at is the place from 20 to 23
 unfoldable pub stepped : ℕ → R.Stepped → A.Answer
@@ -40,7 +40,7 @@ stepped place r = record { code = r .code; side = 0; step = 1; at = cond (eqb (r
 unfoldable pub answerTo : List ℕ → List ℕ → ℕ → S.Step → A.Answer
 unfolding stepped stepIn
 answerTo ds ws n s =
-    cond (eqb (typingOf ds ws n .code) 0) (stepped (s .place) (stepIn ds ws n s)) (refusal (typingOf ds ws n .code) (typingOf ds ws n .at))
+    cond (eqb (typingOf ds ws n .code) 0) (stepped (s .place) (stepIn ds ws n s)) (stepRefusal (typingOf ds ws n .code) (typingOf ds ws n .at))
 
 -- "1 .. slices untouched"; "The step leaves only zeros after 7 to 11, else the term or its result with zeros behind"
 unfoldable pub wordsLeft : List ℕ → List ℕ → ℕ → S.Step → List ℕ

@@ -12,7 +12,7 @@ use Rattle.rules.specs.Steps.{Stepped}
 use Rattle.rules.specs.Outcomes.{Outcome}
 use Rattle.lent.specs.declared.steps.Step.{Step}
 use Rattle.lent.specs.Lent.{asked}
-use Rattle.step.specs.Answers.{held, refusal, stepped, answerTo, wordsLeft}
+use Rattle.step.specs.Answers.{held, stepRefusal, stepped, answerTo, wordsLeft}
 use Rattle.step.specs.Alike.{Alike}
 
 -- ---- one call
@@ -25,7 +25,7 @@ pub record Done (ds ws : List ℕ) (n : ℕ) (s : Step) (r : Stepped) : Type 0 w
 -- 01: "They test 1; 7 for bad declarations; 8, also for a length that is not the term's; 10; 11", as typing does; "1 .. slices untouched", "The step leaves only
 -- zeros after 7 to 11"
 pub record Refused (ds ws : List ℕ) (n : ℕ) (s : Step) : Type 0 where
-  pub answer : answerTo ds ws n s ≡ refusal (typingOf ds ws n .code) (typingOf ds ws n .at)
+  pub answer : answerTo ds ws n s ≡ stepRefusal (typingOf ds ws n .code) (typingOf ds ws n .at)
   pub untouched : typingOf ds ws n .code ≡ 1 → wordsLeft ds ws n s ≡ ws
   pub zeros : typingOf ds ws n .code ≢ 1 → wordsLeft ds ws n s ≡ replicate (length ws) 0
 
@@ -61,7 +61,7 @@ pub data Course (ds : List ℕ) : Work → Tree → List Step → Tree → Type 
       → Course ds (after ds w s) (r .tree) ss u → Course ds w t (s ∷ ss) u
 
 -- Demand 3: "that term and the one left after the list are alike in the same way"
-pub record Kept (ds : List ℕ) (w : Work) (t : Tree) (S : Sort) (ss : List Step) (u : Tree) : Type 1 where
+pub record ListKept (ds : List ℕ) (w : Work) (t : Tree) (S : Sort) (ss : List Step) (u : Tree) : Type 1 where
   pub course : Course ds w t ss u
   pub left : afterAll ds w ss ≡ leaving w ss u
   pub alike : Alike (contextIn ds) S t u

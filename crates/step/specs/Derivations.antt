@@ -7,15 +7,14 @@ use lib.ListN.{length, take, getD, replicate}
 use Rattle.term.specs.Trees.{Tree, words}
 use Rattle.types.specs.Sorts.{Sort, Context}
 use Rattle.declarations.specs.Declarations.{contextIn}
-use Rattle.typing.specs.Answers.{TypedTerm}
 use Rattle.rules.specs.Outcomes.{Taken, Outcome}
 use Rattle.rules.specs.Steps.{Move, Sides, sideNumber, chosen, put, Run}
 use Rattle.step.specs.declared.run.Answer as A
 use Rattle.step.specs.Answers.{held}
-use Rattle.lent.specs.Lent.{movesIn}
+use Rattle.lent.specs.Lent.{Derivation, movesIn}
 use Rattle.lent.specs.Faults.{fault}
-use Rattle.lent.specs.Refusals.{InOrder, Refused, Begun}
-use Rattle.step.specs.Runs.{refusal, runAnswer, leftAfter, rightAfter}
+use Rattle.lent.specs.Refusals.{LeftTyped, RightTyped, Ordered, Refused, Begun}
+use Rattle.step.specs.Runs.{runRefusal, runAnswer, leftAfter, rightAfter}
 use Rattle.step.specs.Alike.{Alike}
 
 -- ---- the steps
@@ -46,32 +45,33 @@ abbrev zeros : List ℕ → List ℕ
 zeros ws = replicate (length ws) 0
 
 -- ---- what is lent
-module _ (ds left : List ℕ) (n : ℕ) (right : List ℕ) (m : ℕ) (steps : List ℕ) (count : ℕ) where
-  -- Demand 2: "both terms have one and the same type .. by the published typing rules .., each step is an instance of its numbered rule .. at its place and stays inside the limits, and the two terms then agree"
+module _ (d : Derivation) where
+  -- Demand 2: "both terms have one and the same type .. by the published typing rules .., each step is an instance of its numbered rule .. at its place and stays inside the
+  -- limits, and the two terms then agree"
   pub record Accepted : Type 0 where
     pub start : Sides
     pub end : Sides
     pub sort : Sort
-    pub left-term : TypedTerm ds left n (start .left) sort
-    pub right-term : TypedTerm ds right m (start .right) sort
-    pub order : InOrder steps count
-    pub taken : AllTaken (contextIn ds) start (movesIn steps count) end
+    pub left-term : LeftTyped d (start .left) sort
+    pub right-term : RightTyped d (start .right) sort
+    pub order : Ordered d
+    pub taken : AllTaken (contextIn (d .ds)) start (movesIn (d .steps) (d .count)) end
     pub same : end .left ≡ end .right
 
   -- Every answer, with the two slices that it leaves
   pub data Decision : A.Answer → List ℕ → List ℕ → Type 0 where
-    untouched : {s k : ℕ} → Refused ds left n right m steps count 1 s k → Decision (refusal (fault 1 s k)) left right
-    refused : {c s k : ℕ} → c ≢ 1 → Refused ds left n right m steps count c s k → Decision (refusal (fault c s k)) (zeros left) (zeros right)
-    stopped : {p : Sides} {S : Sort} {r : Run} → Begun ds left n right m steps count p S → Stopped (contextIn ds) 0 p (movesIn steps count) r
+    untouched : {s k : ℕ} → Refused d 1 s k → Decision (runRefusal (fault 1 s k)) (d .left) (d .right)
+    refused : {c s k : ℕ} → c ≢ 1 → Refused d c s k → Decision (runRefusal (fault c s k)) (zeros (d .left)) (zeros (d .right))
+    stopped : {p : Sides} {S : Sort} {r : Run} → Begun d p S → Stopped (contextIn (d .ds)) 0 p (movesIn (d .steps) (d .count)) r
         → Decision (answer (r .code) (r .side) (r .step) (r .at) (r .sides)) (held (r .sides .left)) (held (r .sides .right))
-    differ : {p q : Sides} {S : Sort} {k : ℕ} → Begun ds left n right m steps count p S → AllTaken (contextIn ds) p (movesIn steps count) q → Differ (words (q .left)) (words (q .right)) k
-        → Decision (answer 30 0 count k q) (held (q .left)) (held (q .right))
-    accepted : (a : Accepted) → Decision (answer 0 0 count 0 (a .end)) (held (a .end .left)) (held (a .end .right))
+    differ : {p q : Sides} {S : Sort} {k : ℕ} → Begun d p S → AllTaken (contextIn (d .ds)) p (movesIn (d .steps) (d .count)) q → Differ (words (q .left)) (words (q .right)) k
+        → Decision (answer 30 0 (d .count) k q) (held (q .left)) (held (q .right))
+    accepted : (a : Accepted) → Decision (answer 0 0 (d .count) 0 (a .end)) (held (a .end .left)) (held (a .end .right))
 
   -- Demand 3: "the term that the file gives for each side and what the replay leaves of it are alike in shape and in every such number", at codes 0, 20 to 23 and 30
-  pub record Kept (p : Sides) (S : Sort) (q : Sides) : Type 1 where
-    pub left-slice : leftAfter ds left n right m steps count ≡ held (q .left)
-    pub right-slice : rightAfter ds left n right m steps count ≡ held (q .right)
-    pub lengths : (runAnswer ds left n right m steps count .left ≡ length (words (q .left))) × (runAnswer ds left n right m steps count .right ≡ length (words (q .right)))
-    pub left-alike : Alike (contextIn ds) S (p .left) (q .left)
-    pub right-alike : Alike (contextIn ds) S (p .right) (q .right)
+  pub record RunKept (p : Sides) (S : Sort) (q : Sides) : Type 1 where
+    pub left-slice : leftAfter d ≡ held (q .left)
+    pub right-slice : rightAfter d ≡ held (q .right)
+    pub lengths : (runAnswer d .left ≡ length (words (q .left))) × (runAnswer d .right ≡ length (words (q .right)))
+    pub left-alike : Alike (contextIn (d .ds)) S (p .left) (q .left)
+    pub right-alike : Alike (contextIn (d .ds)) S (p .right) (q .right)

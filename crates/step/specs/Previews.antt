@@ -2,12 +2,9 @@
 -- steps included". Its definition is made of the single step's and typing's own, so that it agrees for every code.
 use mathlib.Core.Path.{_≡_}
 use mathlib.Core.Logic.{_≢_}
-use mathlib.Core.Bool.{cond}
 use mathlib.Core.List.{List, []}
 use Prim.Native.Nat.{ℕ}
-use lib.Dec.{eqb}
 use Rattle.typing.specs.declared.terms.Kind.the-variants as Kinds
-use Rattle.typing.specs.declared.terms.TermType.{TermType}
 use Rattle.typing.specs.declared.terms.Typing.{Typing}
 use Rattle.typing.specs.Answers.{typeRecord, typingOf}
 use Rattle.lent.specs.declared.steps.Step.{Step}
@@ -23,10 +20,6 @@ previewOf ds ws n s =
     let a = answerTo ds ws n s in
     let t = typingAfter ds ws n s in
     record { code = a .code; side = a .side; step = a .step; at = a .at; length = a .length; depth = t .depth; of = t .of }
-
--- a step on a typed term, by what it leaves
-unfoldable pub shown : ℕ → ℕ → ℕ → ℕ → TermType → Typing
-shown code place length depth of = record { code = code; side = 0; step = 1; at = cond (eqb code 0) 0 place; length = length; depth = depth; of = of }
 
 -- ---- "Each must agree with taking the step on a copy of the side, refused steps included"
 pub record Agrees (ds ws : List ℕ) (n : ℕ) (s : Step) (p : Typing) : Type 0 where

@@ -14,12 +14,12 @@ use Rattle.rules.specs.Steps.{Sides, Run, runOf}
 use Rattle.step.specs.declared.run.Answer as A
 use Rattle.step.specs.Answers.{held}
 use Rattle.lent.specs.declared.faults.Fault as F
-use Rattle.lent.specs.Lent.{movesIn}
+use Rattle.lent.specs.Lent.{Derivation, movesIn}
 use Rattle.lent.specs.Faults.{faultIn}
 
 -- "1 .. lengths 0"; "Caused by the typist; step 0, .. lengths 0"
-abbrev pub refusal : F.Fault → A.Answer
-refusal f = record { code = f .code; side = f .side; step = 0; at = f .at; left = 0; right = 0 }
+abbrev pub runRefusal : F.Fault → A.Answer
+runRefusal f = record { code = f .code; side = f .side; step = 0; at = f .at; left = 0; right = 0 }
 
 -- "30 all steps good, the ends differ: side 0, step the count, at the first offset where they differ. Accepted: 0, side 0, step the count, at 0". The ends are n
 -- and m words long
@@ -46,25 +46,24 @@ runFrom Γ p steps from to = runOf Γ from p (drop from (movesIn steps to))
 abbrev pub andThen : Run → (Sides → Run) → Run
 andThen r f = cond (eqb (r .code) 0) (f (r .sides)) r
 
--- what is lent: declarations, two work slices with their lengths, the steps with their count
-module _ (ds left : List ℕ) (n : ℕ) (right : List ℕ) (m : ℕ) (steps : List ℕ) (count : ℕ) where
+module _ (d : Derivation) where
   unfoldable pub runIn : Run
   unfolding runOf contextIn movesIn treeIn parse
-  runIn = runOf (contextIn ds) 0 (record { left = treeIn (parse (take n left)); right = treeIn (parse (take m right)) }) (movesIn steps count)
+  runIn = runOf (contextIn (d .ds)) 0 (record { left = treeIn (parse (take (d .n) (d .left))); right = treeIn (parse (take (d .m) (d .right))) }) (movesIn (d .steps) (d .count))
 
   unfoldable pub runAnswer : A.Answer
   unfolding faultIn runIn answered
-  runAnswer = cond (eqb (faultIn ds left n right m steps count .code) 0) (answered runIn) (refusal (faultIn ds left n right m steps count))
+  runAnswer = cond (eqb (faultIn d .code) 0) (answered runIn) (runRefusal (faultIn d))
 
   -- "1 .. slices untouched"; "both slices all zero"; then "the terms before" a bad step, or "the two ends"
   unfoldable pub slice : List ℕ → Tree → List ℕ
   unfolding faultIn held
-  slice ws t = cond (eqb (faultIn ds left n right m steps count .code) 0) (held t) (cond (eqb (faultIn ds left n right m steps count .code) 1) ws (replicate (length ws) 0))
+  slice ws t = cond (eqb (faultIn d .code) 0) (held t) (cond (eqb (faultIn d .code) 1) ws (replicate (length ws) 0))
 
   unfoldable pub leftAfter : List ℕ
   unfolding slice runIn
-  leftAfter = slice left (runIn .sides .left)
+  leftAfter = slice (d .left) (runIn .sides .left)
 
   unfoldable pub rightAfter : List ℕ
   unfolding slice runIn
-  rightAfter = slice right (runIn .sides .right)
+  rightAfter = slice (d .right) (runIn .sides .right)

@@ -9,14 +9,14 @@ use Rattle.declarations.specs.Declarations.{contextIn}
 use Rattle.typing.specs.Answers.{typingOf, TypedTerm}
 use Rattle.rules.specs.Steps.{Sides, stepOf}
 use Rattle.lent.specs.declared.steps.Step.{Step}
-use Rattle.lent.specs.Lent.{asked}
+use Rattle.lent.specs.Lent.{Derivation, asked}
 use Rattle.lent.specs.Refusals.{Begun}
 use Rattle.step.specs.Alike.{Alike}
 use Rattle.step.specs.Calls as C
 use Rattle.step.specs.Calls.{Done, Refused, Work}
 use Rattle.step.specs.Previews.{previewOf, Agrees}
 use Rattle.step.specs.Runs.{runFrom, andThen, runAnswer, leftAfter, rightAfter}
-use Rattle.step.specs.Derivations.{Accepted, Decision, Kept}
+use Rattle.step.specs.Derivations.{Accepted, Decision, RunKept}
 
 -- ---- the single step
 -- 01: "stepping relies only on what typing promises": on a typed term the call does the step of the rules, whatever stands behind the term
@@ -31,7 +31,7 @@ Refusals = (ds ws : List ℕ) (n : ℕ) → typingOf ds ws n .code ≢ 0 → (s 
 -- words with any words behind". Demand 3: "any rules, places and indices, refused ones included"
 abbrev pub Lists : Type 1
 Lists =
-    (ds : List ℕ) (w : Work) (t : Tree) (S : Sort) → TypedTerm ds (w .slice) (w .length) t S → (ss : List Step) → (u : Tree) × C.Kept ds w t S ss u
+    (ds : List ℕ) (w : Work) (t : Tree) (S : Sort) → TypedTerm ds (w .slice) (w .length) t S → (ss : List Step) → (u : Tree) × C.ListKept ds w t S ss u
 
 -- ---- the preview
 -- 02, CR 3, for all inputs: "refused steps included", and untyped terms
@@ -41,27 +41,19 @@ Previews = (ds ws : List ℕ) (n : ℕ) (s : Step) → Agrees ds ws n s (preview
 -- ---- the run
 -- Demand 2: accepted "exactly when"
 abbrev pub Accepts : Type 0
-Accepts =
-    (ds left : List ℕ) (n : ℕ) (right : List ℕ) (m : ℕ) (steps : List ℕ) (count : ℕ)
-    → (runAnswer ds left n right m steps count .code ≡ 0) ↔ Accepted ds left n right m steps count
+Accepts = (d : Derivation) → (runAnswer d .code ≡ 0) ↔ Accepted d
 
 -- "Otherwise the first fault in document 01's order is named": every answer, with what it says and the two slices that it leaves
 abbrev pub Decides : Type 0
-Decides =
-    (ds left : List ℕ) (n : ℕ) (right : List ℕ) (m : ℕ) (steps : List ℕ) (count : ℕ)
-    → Decision ds left n right m steps count (runAnswer ds left n right m steps count) (leftAfter ds left n right m steps count) (rightAfter ds left n right m steps count)
+Decides = (d : Derivation) → Decision d (runAnswer d) (leftAfter d) (rightAfter d)
 
 -- each side through every run that begins
 abbrev pub Keeps : Type 1
-Keeps =
-    (ds left : List ℕ) (n : ℕ) (right : List ℕ) (m : ℕ) (steps : List ℕ) (count : ℕ) (p : Sides) (S : Sort)
-    → Begun ds left n right m steps count p S → (q : Sides) × Kept ds left n right m steps count p S q
+Keeps = (d : Derivation) (p : Sides) (S : Sort) → Begun d p S → (q : Sides) × RunKept d p S q
 
 -- Demand 3: accepted, "the number at each row and column of the matrix that the left term in it stands for equals the number there for the right term in it"
 abbrev pub Proves : Type 1
-Proves =
-    (ds left : List ℕ) (n : ℕ) (right : List ℕ) (m : ℕ) (steps : List ℕ) (count : ℕ) (a : Accepted ds left n right m steps count)
-    → Alike (contextIn ds) (a .sort) (a .start .left) (a .start .right)
+Proves = (d : Derivation) (a : Accepted d) → Alike (contextIn (d .ds)) (a .sort) (a .start .left) (a .start .right)
 
 -- the steps from the k-th on, m of them and then a more, are m + a of them at once
 abbrev pub Pieces : Type 0

@@ -9,8 +9,6 @@ ghost use mathlib.Core.Path.{_≡_};
 ghost use mathlib.Core.Bool.{true};
 ghost use mathlib.Core.Logic.{_⊎_};
 ghost use mathlib.Core.List.{List, [], _∷_};
-ghost use Prim.Native.Nat.{_+_, _≤_};
-ghost use lib.ListN.{length};
 ghost use Rattle.words.specs.Words.{Added};
 ghost use Rattle.term.specs.Trees.{Tree, words};
 ghost use Rattle.term.specs.Parts.{parse, treeIn};
@@ -31,7 +29,8 @@ fn append_index(
     at: usize,
 ) -> usize
     requires { ⌜ ((bodies : List Tree) × HasSort (now ds) bodies (outerAt (now term) place) (now part)) ⌝ }
-    ensures { λ r. ⌜ ((bodies : List Tree) → HasSort (now (ds .entry)) bodies (outerAt (now (term .entry)) place) (now (part .entry)) → Added (now (out .entry)) at (words (chosenIndex second (sortOf (contextAt (now (ds .entry)) bodies) (treeIn (parse (now (part .entry))))))) (now (out .exit)) r) ⌝ }
+    ensures { λ r. ⌜ ((bodies : List Tree) → HasSort (now (ds .entry)) bodies (outerAt (now (term .entry)) place) (now (part .entry))
+        → Added (now (out .entry)) at (words (chosenIndex second (sortOf (contextAt (now (ds .entry)) bodies) (treeIn (parse (now (part .entry))))))) (now (out .exit)) r) ⌝ }
 {
     // 4 a ket, 5 a bra, 6 an operator
     let class = class_of(ds, part, 0, 64);
@@ -59,7 +58,9 @@ fn build_word(
     at: usize,
 ) -> usize
     requires { ⌜ ((x : Caught (now ds) (now ws) found) × (x .outer ≡ outerAt (now term) place) × ((indexless (word ∷ []) ≡ true) ⊎ AllSorted x)) × (asks (found .held) word ≡ true) ⌝ }
-    ensures { λ r. ⌜ ((x : Caught (now (ds .entry)) (now (ws .entry)) found) → x .outer ≡ outerAt (now (term .entry)) place → (indexless (word ∷ []) ≡ true) ⊎ AllSorted x → Added (now (out .entry)) at (piece (contextAt (now (ds .entry)) (x .bodies)) (x .trees) word) (now (out .exit)) r) ⌝ }
+    ensures { λ r. ⌜ ((x : Caught (now (ds .entry)) (now (ws .entry)) found)
+        → x .outer ≡ outerAt (now (term .entry)) place → (indexless (word ∷ []) ≡ true) ⊎ AllSorted x
+        → Added (now (out .entry)) at (piece (contextAt (now (ds .entry)) (x .bodies)) (x .trees) word) (now (out .exit)) r) ⌝ }
 {
     if word / 256 < 253 {
         return append_word(out, at, word);
@@ -82,12 +83,13 @@ pub fn build_side(
     found: Match,
     side: &[u16],
     out: &mut [u16],
-    at: usize,
 ) -> usize
-    requires { ⌜ ((x : Caught (now ds) (now ws) found) × (x .outer ≡ outerAt (now term) place) × ((indexless (now side) ≡ true) ⊎ AllSorted x)) × (at ≤ length (now out) + 1) × (allAsk (found .held) (now side) ≡ true) ⌝ }
-    ensures { λ r. ⌜ ((x : Caught (now (ds .entry)) (now (ws .entry)) found) → x .outer ≡ outerAt (now (term .entry)) place → (indexless (now (side .entry)) ≡ true) ⊎ AllSorted x → Added (now (out .entry)) at (pieces (contextAt (now (ds .entry)) (x .bodies)) (x .trees) (now (side .entry))) (now (out .exit)) r) ⌝ }
+    requires { ⌜ ((x : Caught (now ds) (now ws) found) × (x .outer ≡ outerAt (now term) place) × ((indexless (now side) ≡ true) ⊎ AllSorted x)) × (allAsk (found .held) (now side) ≡ true) ⌝ }
+    ensures { λ r. ⌜ ((x : Caught (now (ds .entry)) (now (ws .entry)) found)
+        → x .outer ≡ outerAt (now (term .entry)) place → (indexless (now (side .entry)) ≡ true) ⊎ AllSorted x
+        → Added (now (out .entry)) 0 (pieces (contextAt (now (ds .entry)) (x .bodies)) (x .trees) (now (side .entry))) (now (out .exit)) r) ⌝ }
 {
-    let mut done = at;
+    let mut done = 0;
     let mut k = 0;
     while k < side.len() {
         done = build_word(ds, term, place, ws, found, side[k], out, done);

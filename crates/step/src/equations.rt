@@ -1,7 +1,8 @@
 // The rules that are one equation: the part is matched against the left side, and the right side is built.
 use crate::building::build_side;
+use families::writing::NO_INSTANCE;
 use families::writing::Rewritten;
-use families::writing::refused;
+use lent::steps::Step;
 use matcher::Match;
 use matcher::match_words;
 use rulebook::Row;
@@ -13,12 +14,12 @@ ghost use mathlib.Core.Bool.{true};
 ghost use mathlib.Core.Logic.{_⊎_};
 ghost use Rattle.words.specs.Listed.{lacks};
 ghost use Rattle.declarations.specs.Declarations.{contextAt};
-ghost use Rattle.rules.specs.Table.{Condition, _⇒_▷_};
-ghost use Rattle.rules.specs.Rewrite.{satisfied, holes, rewrite};
+ghost use Rattle.rules.specs.Table.{Condition};
+ghost use Rattle.rules.specs.Rewrite.{satisfied, holes};
 ghost use Rattle.rules.proofs.Good.{asked, ofWords};
 ghost use Rattle.rulebook.specs.Code.Rows.{conditionNumber};
 ghost use Rattle.step.specs.Code.Building.{Caught, AllSorted};
-ghost use Rattle.step.specs.Code.Site.{Site, Equation};
+ghost use Rattle.step.specs.Code.Site.{Site, Equation, equatedAt};
 ghost use Rattle.families.specs.Writing.{Writes};
 
 // Whether no word is the given one.
@@ -38,7 +39,8 @@ fn is_without(ws: &[u16], word: u16) -> bool
 // Whether the parts in the holes meet the condition of a rule: that in hole 0 is of a kind, or that in hole 1 does not use the basis that the part binds.
 fn is_met(ds: &[u16], ws: &[u16], found: Match, condition: u16) -> bool
     requires { ⌜ ((x : Caught (now ds) (now ws) found) × (k : Condition) × (condition ≡ conditionNumber k) × ((ofWords k ≡ true) ⊎ AllSorted x) × (asked k (found .held) ≡ true)) ⌝ }
-    ensures { λ r. ⌜ ((x : Caught (now (ds .entry)) (now (ws .entry)) found) (k : Condition) → condition ≡ conditionNumber k → (ofWords k ≡ true) ⊎ AllSorted x → r ≡ satisfied (contextAt (now (ds .entry)) (x .bodies)) k (holes (x .trees))) ⌝ }
+    ensures { λ r. ⌜ ((x : Caught (now (ds .entry)) (now (ws .entry)) found) (k : Condition)
+        → condition ≡ conditionNumber k → (ofWords k ≡ true) ⊎ AllSorted x → r ≡ satisfied (contextAt (now (ds .entry)) (x .bodies)) k (holes (x .trees))) ⌝ }
 {
     if condition == 0 {
         return true;
@@ -53,38 +55,30 @@ fn is_met(ds: &[u16], ws: &[u16], found: Match, condition: u16) -> bool
     class_of(ds, &ws[from..], 0, 64) == 3 + condition
 }
 
-// What the equation of a number, with its row, makes of the part with which the words begin: those of the term from the place on.
-pub fn equate(
-    ds: &[u16],
-    term: &[u16],
-    place: usize,
-    ws: &[u16],
-    rule: usize,
-    row: Row,
-    i: usize,
-    j: usize,
-    out: &mut [u16],
-) -> Rewritten
-    requires { ⌜ Site (now ds) (now term) place (now ws) × Equation rule row ⌝ }
-    ensures { λ r. ⌜ ((s : Site (now (ds .entry)) (now (term .entry)) place (now (ws .entry))) (e : Equation rule row) → Writes (rewrite (contextAt (now (ds .entry)) (s .bodies)) (e .condition ⇒ e .left ▷ e .right) i j (s .tree)) (now (out .entry)) 0 (now (out .exit)) r) ⌝ }
+// What the equation that a step names, with its row, makes of the part with which the words begin: those of the term from the place on.
+pub fn equate(ds: &[u16], term: &[u16], ws: &[u16], s: Step, row: Row, out: &mut [u16]) -> Rewritten
+    requires { ⌜ Site (now ds) (now term) (s .place) (now ws) × Equation (s .rule) row ⌝ }
+    ensures { λ r. ⌜ ((x : Site (now (ds .entry)) (now (term .entry)) (s .place) (now (ws .entry))) (e : Equation (s .rule) row)
+        → Writes (equatedAt (now (ds .entry)) x e (s .i) (s .j)) (now (out .entry)) (now (out .exit)) r) ⌝ }
 {
-    if i != 0 {
-        return refused(22);
+    if s.i != 0 {
+        return NO_INSTANCE;
     }
-    if j != 0 {
-        return refused(22);
+    if s.j != 0 {
+        return NO_INSTANCE;
     }
     let mut sides = [0u16; 24];
-    copy_from(rule, row.a as usize, &mut sides);
+    copy_from(s.rule as usize, row.a as usize, &mut sides);
     let n = row.b as usize;
     let m = row.c as usize;
     let found = match_words(&sides[..n], ws);
     if !found.whole {
-        return refused(22);
+        return NO_INSTANCE;
     }
     if !is_met(ds, ws, found, row.d) {
-        return refused(22);
+        return NO_INSTANCE;
     }
-    let done = build_side(ds, term, place, ws, found, &sides[n..n + m], out, 0);
+    let place = s.place as usize;
+    let done = build_side(ds, term, place, ws, found, &sides[n..n + m], out);
     Rewritten { code: 0, end: done }
 }

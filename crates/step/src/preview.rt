@@ -11,13 +11,16 @@ ghost use mathlib.Core.Path.{_≡_};
 ghost use mathlib.Core.List.{_++_};
 ghost use Prim.Native.Nat.{_+_, _≤_};
 ghost use lib.ListN.{length};
+ghost use Rattle.words.specs.Words.{laid};
 ghost use Rattle.term.specs.Parts.{partDepth};
-ghost use Rattle.step.specs.Previews.{shown, previewOf};
+ghost use Rattle.step.specs.Code.Making.{shown};
+ghost use Rattle.step.specs.Previews.{previewOf};
 
-// The depth of the term whose words are these and then those, which fit the slice. A lookup tells it, once they stand there.
+// The depth of the term whose words are these and then those, which fit the slice. A lookup tells it, once they stand there, over what stood there before.
 fn depth_in(all: &mut [u16], front: &[u16], back: &[u16]) -> usize
     requires { ⌜ length (now front) + length (now back) ≤ length (now all) ⌝ }
-    ensures { λ r. ⌜ r ≡ partDepth (now (front .entry) ++ now (back .entry)) 0 ⌝ }
+    ensures { λ r. ⌜ (r ≡ partDepth (now (front .entry) ++ now (back .entry)) 0)
+        × (now (all .exit) ≡ laid (laid (now (all .entry)) 0 (now (front .entry))) (length (now (front .entry))) (now (back .entry))) ⌝ }
 {
     let middle = append(all, 0, front);
     let end = append(all, middle, back);

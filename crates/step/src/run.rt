@@ -8,7 +8,8 @@ use words::same;
 ghost use mathlib.Core.Path.{_≡_};
 ghost use Prim.Native.Nat.{_≤_};
 ghost use lib.ListN.{length, take};
-ghost use Rattle.step.specs.Runs.{refusal, compared, runAnswer, leftAfter, rightAfter};
+ghost use Rattle.lent.specs.Lent.{lent};
+ghost use Rattle.step.specs.Runs.{runRefusal, compared, runAnswer, leftAfter, rightAfter};
 
 // The answer: a code with its side, step and place, and the lengths of the two terms that are left.
 pub struct Answer {
@@ -20,8 +21,9 @@ pub struct Answer {
     pub right: usize,
 }
 
-fn refused_with(f: Fault) -> Answer
-    ensures { λ r. ⌜ r ≡ refusal f ⌝ }
+// An answer of a fault that is found before any step.
+pub fn refused_with(f: Fault) -> Answer
+    ensures { λ r. ⌜ r ≡ runRefusal f ⌝ }
 {
     Answer {
         code: f.code,
@@ -69,7 +71,9 @@ pub fn run_steps(
     steps: &[u16],
     count: usize,
 ) -> Answer
-    ensures { λ r. ⌜ (r ≡ runAnswer (now (ds .entry)) (now (left .entry)) n (now (right .entry)) m (now (steps .entry)) count) × (now (left .exit) ≡ leftAfter (now (ds .entry)) (now (left .entry)) n (now (right .entry)) m (now (steps .entry)) count) × (now (right .exit) ≡ rightAfter (now (ds .entry)) (now (left .entry)) n (now (right .entry)) m (now (steps .entry)) count) ⌝ }
+    ensures { λ r. ⌜ (r ≡ runAnswer (lent (now (ds .entry)) (now (left .entry)) n (now (right .entry)) m (now (steps .entry)) count))
+        × (now (left .exit) ≡ leftAfter (lent (now (ds .entry)) (now (left .entry)) n (now (right .entry)) m (now (steps .entry)) count))
+        × (now (right .exit) ≡ rightAfter (lent (now (ds .entry)) (now (left .entry)) n (now (right .entry)) m (now (steps .entry)) count)) ⌝ }
 {
     let fault = first_fault(ds, left, n, right, m, steps, count);
     if fault.code == 1 {

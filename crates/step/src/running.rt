@@ -33,7 +33,12 @@ struct Moved {
 // The step whose words begin at `at`.
 fn step_there(steps: &[u16], at: usize) -> Step
     requires { ⌜ at + 5 ≤ length (now steps) ⌝ }
-    ensures { λ r. ⌜ asked r ≡ record { rule = getD (now (steps .entry)) (at + 1) 0; place = getD (now (steps .entry)) (at + 2) 0; i = getD (now (steps .entry)) (at + 3) 0; j = getD (now (steps .entry)) (at + 4) 0 } ⌝ }
+    ensures { λ r. ⌜ asked r ≡ record {
+      rule = getD (now (steps .entry)) (at + 1) 0;
+      place = getD (now (steps .entry)) (at + 2) 0;
+      i = getD (now (steps .entry)) (at + 3) 0;
+      j = getD (now (steps .entry)) (at + 4) 0;
+    } ⌝ }
 {
     Step {
         rule: steps[at + 1],
@@ -55,7 +60,9 @@ fn move_side(
     out: &mut [u16],
 ) -> Moved
     requires { ⌜ ((p : Sides) × (S : Sort) × Ready (now ds) (now left) n (now right) m p S) × (length (now out) ≡ 4096) ⌝ }
-    ensures { λ r. ⌜ (length (now (out .exit)) ≡ 4096) × ((p : Sides) (S : Sort) → Ready (now (ds .entry)) (now (left .entry)) n (now (right .entry)) m p S → (r .code ≡ stepOn (contextIn (now (ds .entry))) p (record { side = sideIn side; step = asked s }) .code) × Ready (now (ds .entry)) (now (left .exit)) (r .left) (now (right .exit)) (r .right) (movedBy (contextIn (now (ds .entry))) p (record { side = sideIn side; step = asked s })) S) ⌝ }
+    ensures { λ r. ⌜ (length (now (out .exit)) ≡ 4096) × ((p : Sides) (S : Sort) → Ready (now (ds .entry)) (now (left .entry)) n (now (right .entry)) m p S
+        → (r .code ≡ stepOn (contextIn (now (ds .entry))) p (record { side = sideIn side; step = asked s }) .code)
+        × Ready (now (ds .entry)) (now (left .exit)) (r .left) (now (right .exit)) (r .right) (movedBy (contextIn (now (ds .entry))) p (record { side = sideIn side; step = asked s })) S) ⌝ }
 {
     if side == 2 {
         let taken = step_on(ds, right, m, s, out);
@@ -86,7 +93,9 @@ pub fn take_from(
     out: &mut [u16],
 ) -> Answer
     requires { ⌜ ((p : Sides) × (S : Sort) × Ready (now ds) (now left) n (now right) m p S) × (length (now out) ≡ 4096) × (from ≤ to) × (to ≤ 1000) × (stepAt to ≤ length (now steps)) ⌝ }
-    ensures { λ r. ⌜ ((p : Sides) (S : Sort) → Ready (now (ds .entry)) (now (left .entry)) n (now (right .entry)) m p S → (r ≡ numbersOf (runFrom (contextIn (now (ds .entry))) p (now (steps .entry)) from to)) × Ready (now (ds .entry)) (now (left .exit)) (r .left) (now (right .exit)) (r .right) (runFrom (contextIn (now (ds .entry))) p (now (steps .entry)) from to .sides) S) ⌝ }
+    ensures { λ r. ⌜ ((p : Sides) (S : Sort) → Ready (now (ds .entry)) (now (left .entry)) n (now (right .entry)) m p S
+        → (r ≡ numbersOf (runFrom (contextIn (now (ds .entry))) p (now (steps .entry)) from to))
+        × Ready (now (ds .entry)) (now (left .exit)) (r .left) (now (right .exit)) (r .right) (runFrom (contextIn (now (ds .entry))) p (now (steps .entry)) from to .sides) S) ⌝ }
 {
     let mut a = n;
     let mut b = m;

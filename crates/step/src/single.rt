@@ -4,7 +4,7 @@ use lent::steps::Step;
 use typing::terms::type_term;
 use words::clear_from;
 ghost use mathlib.Core.Path.{_≡_};
-ghost use Rattle.step.specs.Answers.{refusal, answerTo, wordsLeft};
+ghost use Rattle.step.specs.Answers.{stepRefusal, answerTo, wordsLeft};
 
 // The answer: a code with its side, step and place, and the length of the term that is left.
 pub struct Answer {
@@ -16,7 +16,7 @@ pub struct Answer {
 }
 
 fn refused_with(code: usize, at: usize) -> Answer
-    ensures { λ r. ⌜ r ≡ refusal code at ⌝ }
+    ensures { λ r. ⌜ r ≡ stepRefusal code at ⌝ }
 {
     Answer {
         code,

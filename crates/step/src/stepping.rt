@@ -1,7 +1,8 @@
 // A step on a typed term: the result is made apart, so that a refusal moves nothing.
 use crate::rewriting::rewrite_part;
+use families::writing::Replaced;
 use families::writing::Rewritten;
-use families::writing::refused;
+use families::writing::TOO_BIG;
 use lent::steps::Step;
 use rulebook::row_of;
 use term::parts::level_at;
@@ -57,28 +58,22 @@ fn is_too_deep(term: &[u16], place: usize, deepens: bool, old: usize, part: &[u1
     64 < level_at(term, place) + deep
 }
 
-// The limits of the whole result, and the words behind the part. A part's new words stand in the first `new` of `out`.
-fn finish(
-    term: &[u16],
-    place: usize,
-    end: usize,
-    deepens: bool,
-    old: usize,
-    new: usize,
-    out: &mut [u16],
-) -> Rewritten
-    requires { ⌜ Fresh (now term) place end deepens old (now out) new ⌝ }
-    ensures { λ r. ⌜ ((f : Fresh (now (term .entry)) place end deepens old (now (out .entry)) new) → Made (f .tree) (limited (f .tree) (replace (f .tree) place (f .result))) place (now (out .exit)) r) ⌝ }
+// The limits of the whole result, and the words behind the part. A part's new words stand in the front of `out`.
+fn finish(term: &[u16], place: usize, made: Replaced, out: &mut [u16]) -> Rewritten
+    requires { ⌜ Fresh (now term) place made (now out) ⌝ }
+    ensures { λ r. ⌜ ((f : Fresh (now (term .entry)) place made (now (out .entry))) → Made (f .tree) (limited (f .tree) (replace (f .tree) place (f .result))) place (now (out .exit)) r) ⌝ }
 {
+    let new = made.written.end;
     if 4096 < new {
-        return refused(23);
+        return TOO_BIG;
     }
-    if is_too_deep(term, place, deepens, old, &out[..new]) {
-        return refused(23);
+    if is_too_deep(term, place, made.deepens, made.depth, &out[..new]) {
+        return TOO_BIG;
     }
+    let end = place + made.size;
     let done = append(out, new, &term[end..]);
     if 4096 - place < done {
-        return refused(23);
+        return TOO_BIG;
     }
     Rewritten { code: 0, end: done }
 }
@@ -88,42 +83,20 @@ pub fn make(ds: &[u16], term: &[u16], s: Step, out: &mut [u16]) -> Rewritten
     requires { ⌜ Termed (now ds) (now term) × (length (now out) ≡ 4096) ⌝ }
     ensures { λ r. ⌜ ((x : Termed (now (ds .entry)) (now (term .entry))) → Made (x .tree) (stepOf (contextIn (now (ds .entry))) (x .tree) (asked s)) (s .place) (now (out .exit)) r) ⌝ }
 {
-    let rule = s.rule as usize;
-    let row = row_of(rule);
+    let row = row_of(s.rule as usize);
     if row.family == 0 {
-        return refused(20);
+        return Rewritten { code: 20, end: 0 };
     }
     let place = s.place as usize;
     if term.len() <= place {
-        return refused(21);
+        return Rewritten { code: 21, end: 0 };
     }
-    let ws = &term[place..];
-    let made = rewrite_part(
-        ds,
-        term,
-        place,
-        ws,
-        rule,
-        row,
-        s.i as usize,
-        s.j as usize,
-        out,
-    );
-    if made.code != 0 {
-        return Rewritten {
-            code: made.code,
-            end: made.end,
-        };
+    let made = rewrite_part(ds, term, s, row, out);
+    let written = made.written;
+    if written.code != 0 {
+        return written;
     }
-    finish(
-        term,
-        place,
-        place + made.size,
-        made.deepens,
-        made.depth,
-        made.end,
-        out,
-    )
+    finish(term, place, made, out)
 }
 
 // Clears a slice behind the new end of a result, before the result is copied. Behind its first `old` words the slice had zeros, and those are not written again. Whoever stops the
@@ -147,7 +120,9 @@ fn put(ws: &mut [u16], place: usize, src: &[u16], old: usize)
 // One step of the typed term in the first `n` words, which have zeros behind.
 pub fn step_on(ds: &[u16], ws: &mut [u16], n: usize, s: Step, out: &mut [u16]) -> Taken
     requires { ⌜ (typingOf (now ds) (now ws) n .code ≡ 0) × (cleared (now ws) n ≡ now ws) × (length (now out) ≡ 4096) ⌝ }
-    ensures { λ r. ⌜ (r .code ≡ stepIn (now (ds .entry)) (now (ws .entry)) n s .code) × (r .length ≡ length (words (stepIn (now (ds .entry)) (now (ws .entry)) n s .tree))) × (now (ws .exit) ≡ held (stepIn (now (ds .entry)) (now (ws .entry)) n s .tree)) × (length (now (out .exit)) ≡ 4096) ⌝ }
+    ensures { λ r. ⌜ (r .code ≡ stepIn (now (ds .entry)) (now (ws .entry)) n s .code)
+        × (r .length ≡ length (words (stepIn (now (ds .entry)) (now (ws .entry)) n s .tree)))
+        × (now (ws .exit) ≡ held (stepIn (now (ds .entry)) (now (ws .entry)) n s .tree)) × (length (now (out .exit)) ≡ 4096) ⌝ }
 {
     let result = make(ds, &ws[..n], s, out);
     if result.code != 0 {

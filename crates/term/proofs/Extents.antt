@@ -112,7 +112,7 @@ pub pend : List ℕ → ℕ → List ℕ
 pend o zero = []
 pend o (suc k) = getD o k 0 ∷ pend o k
 
-pend-length : (o : List ℕ) (k : ℕ) → length (pend o k) ≡ k
+pub pend-length : (o : List ℕ) (k : ℕ) → length (pend o k) ≡ k
 unfolding pend
 pend-length o zero = refl
 pend-length o (suc k) = ap suc (pend-length o k)
@@ -173,18 +173,8 @@ module _ {ws : List ℕ} {at : ℕ} {outer : List ℕ} where
     walked-unknown h e = told-by ws at at 0 (sym (reach-unknown ws at i h d (left - 1) (pend outer level) e) ∙ rest-more)
 
     module _ (inside : i < length ws) (n : ℕ) (e : arityOf (getD ws i 0) ≡ Children n) where
-      rest-read : reach at (i + 1) (max d (level + 1)) (n ∷ (left - 1) ∷ pend outer level) (parse (drop (i + 1) ws)) ≡ asked ws at
+      pub rest-read : reach at (i + 1) (max d (level + 1)) (n ∷ (left - 1) ∷ pend outer level) (parse (drop (i + 1) ws)) ≡ asked ws at
       rest-read = rw (pend-length outer level) at (sym (reach-more ws at i inside d (left - 1) n (pend outer level) e) ∙ rest-more)
-
-      pub walked-leaf : n ≡ 0 → Walked ws at outer (left - 1) level (max d (level + 1)) (i + 1)
-      walked-leaf z =
-          let r = rw z at rest-read in
-          record {
-            few = omega (arith, w .few);
-            room = w .room;
-            deep = omega (arith, w .deep);
-            rest = sym (reach-closed at (i + 1) (max d (level + 1)) ((left - 1) ∷ pend outer level) (parse (drop (i + 1) ws)) (omega (arith, pend-length outer level))) ∙ r;
-          }
 
       pub walked-open : level < length outer → Walked ws at (set outer level (left - 1)) n (level + 1) (max d (level + 1)) (i + 1)
       unfolding pend
@@ -198,16 +188,7 @@ module _ {ws : List ℕ} {at : ℕ} {outer : List ℕ} where
             rest = rw (z, p) (rw z at rest-read);
           }
 
--- ---- a part is at least 1 deep
-depth-of : (f : Forest) → 0 < length (first f) → 1 ≤ firstDepth f
-unfolding first firstDepth depth
-depth-of none h = absurd (omega arith)
-depth-of (node l cs ▹ f) h = omega arith
-
-pub depth-found : (ws : List ℕ) (at : ℕ) → 0 < length (part ws at) → 1 ≤ partDepth ws at
-unfolding part partDepth
-depth-found ws at h = depth-of (parse (drop at ws)) h
-
+-- ---- no part, no depth
 depth-none : (f : Forest) → length (first f) ≡ 0 → firstDepth f ≡ 0
 unfolding first firstDepth words
 depth-none none h = refl

@@ -4,7 +4,7 @@ mod Lines
 pub mod Parsing
 pub mod Scan
 pub mod Extents
-pub mod Names
+mod Rows
 pub mod TermTest
 pub mod Comparing
 pub mod Places

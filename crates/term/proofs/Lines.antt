@@ -14,7 +14,7 @@ use Rattle.term.specs.declared.heads.Arity.the-variants.{Unknown, Childr
 use Rattle.term.specs.declared.heads.Class.{Class}
 use Rattle.term.specs.declared.heads.Class.the-variants.{Nothing, Index, Basis, Scalar, Ket, Bra, Operator, Array, Term}
 use Rattle.term.specs.Heads.{Head, unknown, named, fixed, counted, heads, reading, read, arityIn, arityOf, resultIn, resultOf, childIn, childOf}
-use Rattle.term.specs.Code.Lines.{digit, lineOf, lineAt, classOf}
+use Rattle.term.specs.Code.Lines.{numberOf, lineOf, lineAt, classes, classOf}
 use Rattle.term.proofs.Readings.{few, few-at}
 
 -- a line at a number past the table is the unknown head's, which is 0
@@ -22,42 +22,21 @@ pub line-past : (h : ℕ) → 29 ≤ h → lineAt h ≡ 0
 unfolding lineAt heads
 line-past h k = ap lineOf (List·getD-eq-default heads unknown k)
 
-digit-small : (c : Class) → digit c ≤ 8
-unfolding digit
-digit-small Nothing = omega arith
-digit-small Index = omega arith
-digit-small Basis = omega arith
-digit-small Scalar = omega arith
-digit-small Ket = omega arith
-digit-small Bra = omega arith
-digit-small Operator = omega arith
-digit-small Array = omega arith
-digit-small Term = omega arith
-
-class-digit : (c : Class) → classOf (digit c) ≡ c
-unfolding digit
-class-digit Nothing = refl
-class-digit Index = refl
-class-digit Basis = refl
-class-digit Scalar = refl
-class-digit Ket = refl
-class-digit Bra = refl
-class-digit Operator = refl
-class-digit Array = refl
-class-digit Term = refl
+-- a class's number is at most 8, and stands for it
+digit-of : (c : Class) → (numberOf c ≤ 8) × (classOf (numberOf c) ≡ c)
+digit-of Nothing = (omega arith, refl)
+digit-of Index = (omega arith, refl)
+digit-of Basis = (omega arith, refl)
+digit-of Scalar = (omega arith, refl)
+digit-of Ket = (omega arith, refl)
+digit-of Bra = (omega arith, refl)
+digit-of Operator = (omega arith, refl)
+digit-of Array = (omega arith, refl)
+digit-of Term = (omega arith, refl)
 
 -- only the digits 1 to 8 stand for a class
-pub class-none : (d : ℕ) → d ≢ 1 → d ≢ 2 → d ≢ 3 → d ≢ 4 → d ≢ 5 → d ≢ 6 → d ≢ 7 → d ≢ 8 → classOf d ≡ Nothing
-class-none zero a b e f g h i j = refl
-class-none (suc zero) a b e f g h i j = absurd (a refl)
-class-none (suc (suc zero)) a b e f g h i j = absurd (b refl)
-class-none (suc (suc (suc zero))) a b e f g h i j = absurd (e refl)
-class-none (suc (suc (suc (suc zero)))) a b e f g h i j = absurd (f refl)
-class-none (suc (suc (suc (suc (suc zero))))) a b e f g h i j = absurd (g refl)
-class-none (suc (suc (suc (suc (suc (suc zero)))))) a b e f g h i j = absurd (h refl)
-class-none (suc (suc (suc (suc (suc (suc (suc zero))))))) a b e f g h i j = absurd (i refl)
-class-none (suc (suc (suc (suc (suc (suc (suc (suc zero)))))))) a b e f g h i j = absurd (j refl)
-class-none (suc (suc (suc (suc (suc (suc (suc (suc (suc d))))))))) a b e f g h i j = refl
+pub class-past : (d : ℕ) → 9 ≤ d → classOf d ≡ Nothing
+class-past d h = List·getD-eq-default classes Nothing h
 
 -- the first digit, by the form of the head
 formOf : Head → ℕ
@@ -66,39 +45,28 @@ formOf (named l c) = 1
 formOf (counted l c c′) = 2
 formOf (fixed l c cs) = suc (suc (suc (length cs)))
 
-form-digit : (h : Head) → lineOf h / 4096 ≡ formOf h
-unfolding lineOf formOf
-form-digit unknown = refl
-form-digit (named l c) = omega (arith, digit-small c)
-form-digit (counted l c c′) = omega (arith, digit-small c, digit-small c′)
-form-digit (fixed l c cs) = omega (arith, digit-small c, digit-small (getD cs 0 Nothing), digit-small (getD cs 1 Nothing))
+-- the four digits of a line; the last is the second child's, where the children are not counted
+record Digits (h : Head) : Type 0 where
+  form : lineOf h / 4096 ≡ formOf h
+  result : lineOf h / 256 % 16 ≡ numberOf (resultIn h)
+  child : lineOf h / 16 % 16 ≡ numberOf (childIn h 0)
+  last : formOf h ≢ 2 → lineOf h % 16 ≡ numberOf (childIn h 1)
+
+digits : (h : Head) → Digits h
+unfolding lineOf formOf resultIn childIn
+digits unknown = record { form = refl; result = refl; child = refl; last = λ f. refl }
+digits (named l c) =
+    let s = digit-of c .0 in record { form = omega arith; result = omega arith; child = omega arith; last = λ f. omega arith }
+digits (counted l c c′) =
+    let s = digit-of c .0 in let t = digit-of c′ .0 in record { form = omega arith; result = omega arith; child = omega arith; last = λ f. absurd (f refl) }
+digits (fixed l c cs) =
+    let s = digit-of c .0 in let t = digit-of (getD cs 0 Nothing) .0 in let u = digit-of (getD cs 1 Nothing) .0 in
+    record { form = omega arith; result = omega arith; child = omega arith; last = λ f. omega arith }
 
 -- a digit of a number, where the first n digits are the forms of the heads from `from` on
 pub form-at : (x from n : ℕ) → allUpTo n (λ k. eqb (x / 2 ^ (k * 4) % 16) (lineAt (from + k) / 4096)) ≡ true → (k h : ℕ) → k < n → from + k ≡ h
     → x / 2 ^ (k * 4) % 16 ≡ lineAt h / 4096
 form-at x from n e k h l z = rw (← z) (eqb-true _ _ (allUpTo-at n _ e k l))
-
-result-digit : (h : Head) → lineOf h / 256 % 16 ≡ digit (resultIn h)
-unfolding lineOf resultIn
-result-digit unknown = refl
-result-digit (named l c) = omega (arith, digit-small c)
-result-digit (counted l c c′) = omega (arith, digit-small c, digit-small c′)
-result-digit (fixed l c cs) = omega (arith, digit-small c, digit-small (getD cs 0 Nothing), digit-small (getD cs 1 Nothing))
-
-child-digit : (h : Head) → lineOf h / 16 % 16 ≡ digit (childIn h 0)
-unfolding lineOf childIn digit
-child-digit unknown = refl
-child-digit (named l c) = omega (arith, digit-small c)
-child-digit (counted l c c′) = omega (arith, digit-small c, digit-small c′)
-child-digit (fixed l c cs) = omega (arith, digit-small c, digit-small (getD cs 0 Nothing), digit-small (getD cs 1 Nothing))
-
--- the last digit: the second child's, where the children are not counted
-last-digit : (h : Head) → formOf h ≢ 2 → lineOf h % 16 ≡ digit (childIn h 1)
-unfolding lineOf childIn digit formOf
-last-digit unknown f = refl
-last-digit (named l c) f = omega (arith, digit-small c)
-last-digit (counted l c c′) f = absurd (f refl)
-last-digit (fixed l c cs) f = omega (arith, digit-small c, digit-small (getD cs 0 Nothing), digit-small (getD cs 1 Nothing))
 
 -- ---- what the functions answer
 abbrev pub arityBy : ℕ → ℕ → Arity
@@ -120,7 +88,7 @@ pub arity-form : (w r f : ℕ) → r ≡ lineAt (w / 256) / 4096 → r ≡ f →
 unfolding arityOf read lineAt
 arity-form w r f e k =
     let h = getD heads (w / 256) unknown in
-    arity-by h (w % 256) ∙ ap (λ x. arityBy x (w % 256)) (sym (form-digit h) ∙ sym e ∙ k)
+    arity-by h (w % 256) ∙ ap (λ x. arityBy x (w % 256)) (sym (digits h .form) ∙ sym e ∙ k)
 
 pub arity-fixed : (f a : ℕ) → 3 ≤ f → arityBy f a ≡ cond (eqb a 0) (Children (f - 3)) Unknown
 arity-fixed zero a h = absurd (omega arith)
@@ -130,17 +98,17 @@ arity-fixed (suc (suc (suc n))) a h = let e : suc (suc (suc n)) - 3 ≡ n = omeg
 
 pub result-line : (h r : ℕ) → r ≡ lineAt h → classOf (r / 256 % 16) ≡ resultOf h
 unfolding resultOf lineAt
-result-line h r e = rw e (ap classOf (result-digit (getD heads h unknown)) ∙ class-digit _)
+result-line h r e = rw e (ap classOf (digits (getD heads h unknown) .result) ∙ digit-of _ .1)
 
 pub child-line : (h r : ℕ) → r ≡ lineAt h → classOf (r / 16 % 16) ≡ childOf h 0
 unfolding childOf lineAt
-child-line h r e = rw e (ap classOf (child-digit (getD heads h unknown)) ∙ class-digit _)
+child-line h r e = rw e (ap classOf (digits (getD heads h unknown) .child) ∙ digit-of _ .1)
 
 pub second-line : (h r : ℕ) → r ≡ lineAt h → r / 4096 ≢ 2 → classOf (r % 16) ≡ childOf h 1
 unfolding childOf lineAt
 second-line h r e k =
-    let k′ : formOf (getD heads h unknown) ≢ 2 = λ f. k (ap (λ x. x / 4096) e ∙ form-digit (getD heads h unknown) ∙ f) in
-    rw e (ap classOf (last-digit (getD heads h unknown) k′) ∙ class-digit _)
+    let k′ : formOf (getD heads h unknown) ≢ 2 = λ f. k (ap (λ x. x / 4096) e ∙ digits (getD heads h unknown) .form ∙ f) in
+    rw e (ap classOf (digits (getD heads h unknown) .last k′) ∙ digit-of _ .1)
 
 -- the children of a counted head are all of one class
 counted-child : (h : Head) (k : ℕ) → formOf h ≡ 2 → childIn h k ≡ childIn h 0
@@ -152,7 +120,7 @@ counted-child (fixed l c cs) k e = absurd (omega arith)
 
 pub counted-line : (h r k : ℕ) → r ≡ lineAt h → r / 4096 ≡ 2 → childOf h k ≡ childOf h 0
 unfolding childOf lineAt
-counted-line h r k e f = counted-child (getD heads h unknown) k (sym (form-digit (getD heads h unknown)) ∙ ap (λ x. x / 4096) (sym e) ∙ f)
+counted-line h r k e f = counted-child (getD heads h unknown) k (sym (digits (getD heads h unknown) .form) ∙ ap (λ x. x / 4096) (sym e) ∙ f)
 
 -- and no other head has more than two
 few-children : (h : Head) (k : ℕ) → T (few h) → 2 ≤ k → formOf h ≢ 2 → childIn h k ≡ Nothing
@@ -165,4 +133,4 @@ few-children (fixed l c cs) k x h f = List·getD-eq-default cs Nothing (omega (a
 pub others-line : (h r k : ℕ) → r ≡ lineAt h → r / 4096 ≢ 2 → 2 ≤ k → childOf h k ≡ Nothing
 unfolding childOf lineAt
 others-line h r k e f g =
-    few-children (getD heads h unknown) k (few-at h) g (λ x. f (ap (λ y. y / 4096) e ∙ form-digit (getD heads h unknown) ∙ x))
+    few-children (getD heads h unknown) k (few-at h) g (λ x. f (ap (λ y. y / 4096) e ∙ digits (getD heads h unknown) .form ∙ x))

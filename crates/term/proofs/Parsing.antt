@@ -98,13 +98,13 @@ mutual
   parse-words* (t ▹ f) h ws = rw append-assoc (parse-words t (h .0) (words* f ++ ws) ∙ ap (λ (g : Forest). t ▹ g) (parse-words* f (h .1) ws))
 
 -- ---- what `parse` accepts is `words` of its result, up to the first word at which no whole part begins
-pub record Accepted (ws : List ℕ) (f : Forest) : Type 0 where
+pub record Parsed (ws : List ℕ) (f : Forest) : Type 0 where
   pub rest : List ℕ
   pub whole : words* f ++ rest ≡ ws
   pub stops : parse rest ≡ none
   pub formed : Formed* f
 
-accepted-more : {w : ℕ} {ws : List ℕ} {f g : Forest} → parse (w ∷ ws) ≡ g → Accepted ws f → Grown w f g → Accepted (w ∷ ws) g
+accepted-more : {w : ℕ} {ws : List ℕ} {f g : Forest} → parse (w ∷ ws) ≡ g → Parsed ws f → Grown w f g → Parsed (w ∷ ws) g
 unfolding words Formed
 accepted-more {w} {ws} e r (unread-word h) = record { rest = w ∷ ws; whole = refl; stops = e; formed = tt }
 accepted-more {w} {ws} e r (words-short l n h k) = record { rest = w ∷ ws; whole = refl; stops = e; formed = tt }
@@ -115,7 +115,7 @@ accepted-more {w} {ws} e r (planted l a b h k) =
     let s : words* a ++ words* b ≡ words* (a ⧺ b) = sym (words*-⧺ a b) in
     record { rest = r .rest; whole = cc (r .whole); stops = r .stops; formed = ((rw v h, q .0), q .1) }
 
-pub accepted : (ws : List ℕ) → Accepted ws (parse ws)
+pub accepted : (ws : List ℕ) → Parsed ws (parse ws)
 unfolding words Formed parse
 accepted [] = record { rest = []; whole = refl; stops = refl; formed = tt }
 accepted (w ∷ ws) = accepted-more refl (accepted ws) (grown w ws)

@@ -1,5 +1,5 @@
 -- The table of heads against the words of labels: what a word reads as is what that word is written for.
-use mathlib.Core.Path.{_≡_, refl, _∙_}
+use mathlib.Core.Path.{_≡_, refl}
 use mathlib.Core.Bool.{Bool, true, false, _&&_}
 use mathlib.Core.List.{List, [], _∷_}
 use Prim.Native.Nat.{ℕ, zero, suc, _+_, _*_, _/_, _%_, _≤_, _<_}
@@ -8,14 +8,16 @@ use native.Mathlib.Omega.{arith}
 use lib.Dec.{T, leb, leb→le, eqb·suc-zero}
 use lib.ListN.{length, getD}
 use Rattle.term.specs.declared.heads.Class.{Class}
-use Rattle.term.specs.Heads.{Label, Head, unknown, named, fixed, counted, heads, word, unread, labelled, reading, read}
+use Rattle.term.specs.Heads.{Label, type-name, basis-name, variable, index-product, pair, scalar-zero, scalar-one, scalar-sum, scalar-product, conjugate, delta, dot, zero-ket}
+use Rattle.term.specs.Heads.{zero-bra, zero-operator, identity, basis-ket, basis-bra, adjoint, scale, add, tensor, mulk, mulb, outer, mulo, bound-basis, big-sum, Head, unknown, named}
+use Rattle.term.specs.Heads.{fixed, counted, heads, headOf, word, unread, labelled, reading, read}
 
 -- the labels of line k are written with head k
 abbrev Numbered : ℕ → Head → Type 0
 Numbered k unknown = Unit {0}
-Numbered k (named l c) = (a : ℕ) → word (l a) 0 ≡ k * 256 + a
-Numbered k (fixed l c cs) = word l (length cs) ≡ k * 256
-Numbered k (counted l c c′) = (n : ℕ) → word l n ≡ k * 256 + n
+Numbered k (named l c) = (a n : ℕ) → headOf (l a) n ≡ (k, a)
+Numbered k (fixed l c cs) = (n : ℕ) → headOf l n ≡ (k, 0)
+Numbered k (counted l c c′) = (n : ℕ) → headOf l n ≡ (k, n)
 
 abbrev pub Every : (ℕ → Head → Type 0) → ℕ → List Head → Type 0
 Every P k [] = Unit {0}
@@ -37,28 +39,33 @@ every-at P d (h ∷ hs) k e (suc i) = rw shift (every-at P d hs (suc k) (e .1) i
     shift = omega arith
 
 numbered : Every Numbered 0 heads
-unfolding heads word
+unfolding heads headOf
 numbered =
-    tt ⨾ (λ a. refl) ⨾ refl ⨾ (λ a. refl) ⨾ refl ⨾ refl ⨾ refl ⨾ (λ n. refl) ⨾ (λ n. refl) ⨾ refl ⨾ refl ⨾ refl ⨾ refl ⨾ refl
-    ⨾ refl ⨾ refl ⨾ refl ⨾ refl ⨾ refl ⨾ refl ⨾ (λ n. refl) ⨾ refl ⨾ refl ⨾ refl ⨾ refl ⨾ refl ⨾ (λ a. refl) ⨾ refl ⨾ (λ a. refl) ⨾ tt
-
-word-of : (k : ℕ) (h : Head) → Numbered k h → (a : ℕ) (l : Label) (n : ℕ) → reading h a ≡ labelled l n → word l n ≡ k * 256 + a
-unfolding reading
-word-of k unknown x a l n e = cc
-word-of k (named f c) x a l n e = cc (x a)
-word-of k (fixed f c cs) x zero l n e = let z : k * 256 + 0 ≡ k * 256 = omega arith in cc
-word-of k (fixed f c cs) x (suc a) l n e = let e′ : unread ≡ labelled l n = rw eqb·suc-zero at e in cc
-word-of k (counted f c c′) x zero l n e = cc
-word-of k (counted f c c′) x (suc a) l n e = let e′ : labelled f (suc a) ≡ labelled l n = rw eqb·suc-zero at e in cc (x (suc a))
+    tt ⨾ (λ a n. refl) ⨾ (λ n. refl) ⨾ (λ a n. refl) ⨾ (λ n. refl) ⨾ (λ n. refl) ⨾ (λ n. refl) ⨾ (λ n. refl) ⨾ (λ n. refl) ⨾ (λ n. refl)
+    ⨾ (λ n. refl) ⨾ (λ n. refl) ⨾ (λ n. refl) ⨾ (λ n. refl) ⨾ (λ n. refl) ⨾ (λ n. refl) ⨾ (λ n. refl) ⨾ (λ n. refl) ⨾ (λ n. refl) ⨾ (λ n. refl)
+    ⨾ (λ n. refl) ⨾ (λ n. refl) ⨾ (λ n. refl) ⨾ (λ n. refl) ⨾ (λ n. refl) ⨾ (λ n. refl) ⨾ (λ a n. refl) ⨾ (λ n. refl) ⨾ (λ a n. refl) ⨾ tt
 
 -- the labels of a line are written with its number
 numbered-at : (k : ℕ) → Numbered k (getD heads k unknown)
 numbered-at k = rw zero-add at (every-at Numbered (λ k. tt) heads 0 numbered k)
 
--- what a word reads as is what it is written for
-pub word-read : (w : ℕ) (l : Label) (n : ℕ) → read w ≡ labelled l n → word l n ≡ w
+head-of : (k : ℕ) (h : Head) → Numbered k h → (a : ℕ) (l : Label) (n : ℕ) → reading h a ≡ labelled l n → (headOf l n ≡ (k, a)) × (b : ℕ) × (headOf l 0 ≡ (k, b))
+unfolding reading
+head-of k unknown x a l n e = (cc, 0, cc)
+head-of k (named f c) x a l n e = (cc (x a n), a, cc (x a 0))
+head-of k (fixed f c cs) x zero l n e = (cc (x n), 0, cc (x 0))
+head-of k (fixed f c cs) x (suc a) l n e = let e′ : unread ≡ labelled l n = rw eqb·suc-zero at e in (cc, 0, cc)
+head-of k (counted f c c′) x zero l n e = (cc, 0, cc)
+head-of k (counted f c c′) x (suc a) l n e = let e′ : labelled f (suc a) ≡ labelled l n = rw eqb·suc-zero at e in (cc (x (suc a)), 0, cc (x 0))
+
+-- what a word reads as is what it is written for; its head does not hang on the number of children
+pub head-read : (w : ℕ) (l : Label) (n : ℕ) → read w ≡ labelled l n → (headOf l n ≡ (w / 256, w % 256)) × (b : ℕ) × (headOf l 0 ≡ (w / 256, b))
 unfolding read
-word-read w l n e = word-of (w / 256) (getD heads (w / 256) unknown) (numbered-at (w / 256)) (w % 256) l n e ∙ div-add-mod' w 256
+head-read w l n e = head-of (w / 256) (getD heads (w / 256) unknown) (numbered-at (w / 256)) (w % 256) l n e
+
+pub word-read : (w : ℕ) (l : Label) (n : ℕ) → read w ≡ labelled l n → word l n ≡ w
+unfolding word
+word-read w l n e = rw (head-read w l n e .0) (div-add-mod' w 256)
 
 -- a head's line tells what its words read as
 pub read-at : (k a : ℕ) → a < 256 → read (k * 256 + a) ≡ reading (getD heads k unknown) a
@@ -68,23 +75,59 @@ read-at k a h =
     let r : (k * 256 + a) % 256 ≡ a = omega arith in
     rw (q, r)
 
+-- ---- and back: the line of a label's head is the label's own
+abbrev pub Written : Label → ℕ → Head → Type 0
+Written l a unknown = ⊥
+Written l a (named f c) = f a ≡ l
+Written l a (fixed k c cs) = k ≡ l
+Written l a (counted k c c′) = k ≡ l
+
+pub label-line : (l : Label) (n : ℕ) → Written l (headOf l n .1) (getD heads (headOf l n .0) unknown)
+unfolding heads headOf
+label-line (type-name a) n = refl
+label-line index-product n = refl
+label-line (basis-name a) n = refl
+label-line pair n = refl
+label-line scalar-zero n = refl
+label-line scalar-one n = refl
+label-line scalar-sum n = refl
+label-line scalar-product n = refl
+label-line conjugate n = refl
+label-line delta n = refl
+label-line dot n = refl
+label-line zero-ket n = refl
+label-line zero-bra n = refl
+label-line zero-operator n = refl
+label-line identity n = refl
+label-line basis-ket n = refl
+label-line basis-bra n = refl
+label-line adjoint n = refl
+label-line scale n = refl
+label-line add n = refl
+label-line tensor n = refl
+label-line mulk n = refl
+label-line mulb n = refl
+label-line outer n = refl
+label-line mulo n = refl
+label-line (variable a) n = refl
+label-line big-sum n = refl
+label-line (bound-basis a) n = refl
+
 -- what is written for a label of a line is read as it
 module _ (k : ℕ) where
   line-word : (h : Head) → getD heads k unknown ≡ h → Numbered k h
   line-word h e = rw e at (numbered-at k)
 
   pub named-read : (a : ℕ) (l : ℕ → Label) (c : Class) → getD heads k unknown ≡ named l c → a < 256 → read (word (l a) 0) ≡ labelled (l a) 0
-  unfolding reading
-  named-read a l c e h = rw (line-word (named l c) e a, read-at k a h, e)
+  unfolding word reading
+  named-read a l c e h = rw (line-word (named l c) e a 0, read-at k a h, e)
 
   pub fixed-read : (l : Label) (c : Class) (cs : List Class) → getD heads k unknown ≡ fixed l c cs → read (word l (length cs)) ≡ labelled l (length cs)
-  unfolding reading
-  fixed-read l c cs e =
-      let z : k * 256 ≡ k * 256 + 0 = omega arith in
-      rw (line-word (fixed l c cs) e ∙ z, read-at k 0 (omega arith), e)
+  unfolding word reading
+  fixed-read l c cs e = rw (line-word (fixed l c cs) e (length cs), read-at k 0 (omega arith), e)
 
   pub counted-read : (n : ℕ) (l : Label) (c c′ : Class) → getD heads k unknown ≡ counted l c c′ → 1 ≤ n → n ≤ 255 → read (word l n) ≡ labelled l n
-  unfolding reading
+  unfolding word reading
   counted-read (suc n) l c c′ e some few = rw (line-word (counted l c c′) e (suc n), read-at k (suc n) (omega arith), e, eqb·suc-zero)
 
 -- ---- a test that every line of the table passes

@@ -5,6 +5,7 @@ use mathlib.Core.List.{List, [], _∷_}
 use Prim.Native.Nat.{ℕ, suc, _+_, _-_, _/_, _%_, _≤_}
 use lib.Dec.{eqb, leb, ltb}
 use lib.ListN.{length, take}
+use Rattle.words.specs.Listed.{all}
 use Rattle.term.specs.declared.terms.Names.{Names}
 use Rattle.term.specs.Heads.{Reading, unread, labelled, read}
 use Rattle.term.specs.Trees.{Tree, words, Formed, depth}
@@ -61,9 +62,8 @@ declared N w =
     (cond (eqb (w / 256) 3) (known (w % 256) (N .bases))
     (cond (eqb (w / 256) 26) (known (w % 256) (N .variables)) true))
 
-unfoldable pub allDeclared : Names → List ℕ → Bool
-allDeclared N [] = true
-allDeclared N (w ∷ ws) = declared N w && allDeclared N ws
+abbrev pub allDeclared : Names → List ℕ → Bool
+allDeclared N ws = all (declared N) ws
 
 -- What a term is, of a tree: document 01's limits and its declared names
 pub record IsTerm (N : Names) (t : Tree) : Type 0 where
@@ -75,7 +75,7 @@ pub record IsTerm (N : Names) (t : Tree) : Type 0 where
 -- What a term is, of words, as a test for the code to equal: they are one whole part to their end, within the limits and with declared names. What to believe is `IsTerm`;
 -- `TermTest` of `Statements` says that the test passes exactly a term's words
 unfoldable pub termWords : Names → List ℕ → Bool
-unfolding part partDepth allDeclared
+unfolding part partDepth all
 termWords N ws =
     ltb 0 (length ws)
     && (leb (length ws) maxWords

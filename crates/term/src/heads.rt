@@ -80,6 +80,7 @@ fn class_of(digit: u16) -> Class
     ensures { λ r. ⌜ r ≡ classOf digit ⌝ }
 {
     match digit {
+        0 => Class::Nothing,
         1 => Class::Index,
         2 => Class::Basis,
         3 => Class::Scalar,

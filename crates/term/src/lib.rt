@@ -1,3 +1,4 @@
+mod ahead;
 pub mod heads;
 pub mod parts;
 pub mod terms;

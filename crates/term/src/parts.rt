@@ -1,9 +1,12 @@
 // Parts of a run of words: where one ends, how deep it is, how far down it stands, and the two lookups.
+use crate::ahead::LONG_ROW;
+use crate::ahead::leaves_ahead;
 use crate::heads::Arity;
 use crate::heads::arity_of;
 ghost use mathlib.Core.Path.{_≡_};
-ghost use mathlib.Core.Bool.{true};
+ghost use mathlib.Core.Bool.{true, cond};
 ghost use Prim.Native.Nat.{_+_, _≤_, max};
+ghost use lib.Dec.{eqb};
 ghost use lib.ListN.{length};
 ghost use Rattle.term.specs.Parts.{part, partDepth, Handed, side};
 ghost use Rattle.term.specs.Terms.{levelAt};
@@ -32,8 +35,14 @@ pub fn part_end(ws: &[u16], at: usize) -> usize
         let Arity::Children(n) = arity_of(ws[i]) else {
             return at;
         };
-        need = need - 1 + n;
-        i += 1;
+        if n < LONG_ROW {
+            need = need - 1 + n;
+            i += 1;
+        } else {
+            let ahead = leaves_ahead(ws, i + 1, n);
+            need = need - 1 + (n - ahead);
+            i += 1 + ahead;
+        }
     }
     i
 }
@@ -83,6 +92,13 @@ fn told(end: usize, depth: usize) -> Extent
     }
 }
 
+// How deep a part is whose head has `n` children, all of them leaves.
+fn depth_over(n: usize) -> usize
+    ensures { λ r. ⌜ (r ≡ cond (eqb n 0) 1 2) × (r ≤ 2) ⌝ }
+{
+    if n == 0 { 1 } else { 2 }
+}
+
 fn widened(n: u8) -> usize
     ensures { λ r. ⌜ (r ≡ n) × (r ≤ 255) ⌝ }
 {
@@ -113,9 +129,10 @@ fn walk(ws: &[u16], at: usize, outer: &mut [u8]) -> Extent
                 return told(at, 0);
             };
             i += 1;
-            deepest = larger(deepest, level + 1);
-            if n == 0 {
+            if leaves_ahead(ws, i, n) == n {
+                deepest = larger(deepest, level + depth_over(n));
                 left -= 1;
+                i += n;
             } else {
                 if outer.len() <= level {
                     return Extent {
@@ -126,6 +143,7 @@ fn walk(ws: &[u16], at: usize, outer: &mut [u8]) -> Extent
                 }
                 outer[level] = (left - 1) as u8;
                 level += 1;
+                deepest = larger(deepest, level);
                 left = n;
             }
         }

@@ -15,11 +15,15 @@ use Rattle.text.specs.declared.tokens.Tokens.the-variants as C
 use Rattle.text.specs.Numbers.{told, most, limitedTo}
 use Rattle.text.specs.Tokens.{toldPart, toldToken, toldTokens}
 
+-- an answer that is given for no value is the one for none
+none-by : {A B : Type 0} (f : Option A → B) {b : B} → ((a : A) → f (some a) ≡ b → ⊥) → (o : Option A) → f o ≡ b → o ≡ none
+none-by f h none e = refl
+none-by f h (some a) e = absurd (h a e)
+
 -- ---- numbers
 pub no-number : (o : Option ℕ) → told o ≡ Malformed → o ≡ none
 unfolding told
-no-number none e = refl
-no-number (some n) e = absurd (let z : _≡_ {A = ℕ} 0 1 = cc in omega arith)
+no-number o e = none-by told (λ n e. let z : _≡_ {A = ℕ} 0 1 = cc in omega arith) o e
 
 pub a-number : (o : Option ℕ) (v : ℕ) → told o ≡ Value v → (n : ℕ) × (o ≡ some n) × (v ≡ min most n)
 unfolding told
@@ -38,8 +42,7 @@ module _ (limit : ℕ) (o : Option ℕ) where
   pub in-limit : {v : ℕ} → told o ≡ Value v → limit < most → v ≤ limit → limitedTo limit o ≡ some v
   unfolding limitedTo
   in-limit {v} e h g =
-      let a = a-number o v e in
-      let b = a .2 in
+      let a = a-number o v e in let b = a .2 in
       let z : a .0 ≡ v = omega arith in rw (a .1, le-leb (a .0) limit (omega arith), z)
 
   pub limited-few : (n : ℕ) → limitedTo limit o ≡ some n → (n ≤ limit) × (o ≡ some n)
@@ -57,8 +60,7 @@ module _ (limit : ℕ) (o : Option ℕ) where
 -- ---- tokens
 pub no-part : (o : Option ℕ) → toldPart o ≡ P.Malformed → o ≡ none
 unfolding toldPart
-no-part none e = refl
-no-part (some n) e = absurd (let z : _≡_ {A = ℕ} 0 1 = cc in omega arith)
+no-part o e = none-by toldPart (λ n e. let z : _≡_ {A = ℕ} 0 1 = cc in omega arith) o e
 
 pub a-part : (o : Option ℕ) (n : ℕ) → toldPart o ≡ P.Byte n → o ≡ some n
 unfolding toldPart
@@ -67,8 +69,7 @@ a-part (some m) n e = cc
 
 pub no-token : (o : Option ℕ) → toldToken o ≡ T.Malformed → o ≡ none
 unfolding toldToken
-no-token none e = refl
-no-token (some w) e = absurd (let z : _≡_ {A = ℕ} 0 1 = cc in omega arith)
+no-token o e = none-by toldToken (λ w e. let z : _≡_ {A = ℕ} 0 1 = cc in omega arith) o e
 
 pub a-token : (o : Option ℕ) (w : ℕ) → toldToken o ≡ T.Word w → o ≡ some w
 unfolding toldToken
@@ -77,8 +78,7 @@ a-token (some v) w e = cc
 
 pub no-tokens : (o : Option (List ℕ)) → toldTokens o ≡ C.Malformed → o ≡ none
 unfolding toldTokens
-no-tokens none e = refl
-no-tokens (some ws) e = absurd (let z : _≡_ {A = ℕ} 0 1 = cc in omega arith)
+no-tokens o e = none-by toldTokens (λ ws e. let z : _≡_ {A = ℕ} 0 1 = cc in omega arith) o e
 
 pub some-words : (o : Option (List ℕ)) (n : ℕ) → toldTokens o ≡ C.Count n → (ws : List ℕ) × (o ≡ some ws) × (n ≡ length ws)
 unfolding toldTokens

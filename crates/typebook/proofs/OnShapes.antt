@@ -138,7 +138,8 @@ pair-words (node l cs) τ = rw append-nil
 
 -- on the left, on the right and on both sides
 module _ (C : Class) where
-  pub left-product : (F : Tree → Sort) → ((ρ : Tree) → shapeOf (F ρ) ≡ shape C (words ρ) []) → (σ τ : Tree) → concluded (short (σ ⊠ τ) (gives (F (σ ⊠ τ)))) ≡ shaped C true (pairOf (words σ) (words τ)) []
+  pub left-product : (F : Tree → Sort) → ((ρ : Tree) → shapeOf (F ρ) ≡ shape C (words ρ) []) → (σ τ : Tree)
+      → concluded (short (σ ⊠ τ) (gives (F (σ ⊠ τ)))) ≡ shaped C true (pairOf (words σ) (words τ)) []
   unfolding shaped shortBoth
   left-product F f σ τ = rw (pair-words σ τ, and-true (leb (length (words (σ ⊠ τ))) 63), ← f (σ ⊠ τ)) (on-short (σ ⊠ τ) _)
 
@@ -149,7 +150,8 @@ module _ (C : Class) where
 both-products : (σ τ υ φ : Tree) → concluded (short (σ ⊠ τ) (short (υ ⊠ φ) (gives (operator (σ ⊠ τ) (υ ⊠ φ))))) ≡ shaped Operator true (pairOf (words σ) (words τ)) (pairOf (words υ) (words φ))
 unfolding shaped shortBoth
 both-products σ τ υ φ =
-    rw (pair-words σ τ, pair-words υ φ) (on-short (σ ⊠ τ) _ ∙ ap (given (leb (length (words (σ ⊠ τ))) 63)) (on-short (υ ⊠ φ) _) ∙ both (leb (length (words (σ ⊠ τ))) 63) (leb (length (words (υ ⊠ φ))) 63) _)
+    rw (pair-words σ τ, pair-words υ φ)
+    (on-short (σ ⊠ τ) _ ∙ ap (given (leb (length (words (σ ⊠ τ))) 63)) (on-short (υ ⊠ φ) _) ∙ both (leb (length (words (σ ⊠ τ))) 63) (leb (length (words (υ ⊠ φ))) 63) _)
 
 -- ---- the tensor
 -- what a tensor asks of a class: that it is an array's, and the first child's

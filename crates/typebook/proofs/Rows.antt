@@ -10,7 +10,8 @@ use lib.Dec.{eqb·suc-zero}
 use lib.ListN.{length, getD}
 use Rattle.term.specs.declared.heads.Class.the-variants.{Index, Basis}
 use Rattle.words.specs.Words.{sameWords}
-use Rattle.term.specs.Heads.{Label, Head, unknown, named, fixed, counted, heads, unread, labelled, reading, read, resultOf, childOf, index-product, pair, scalar-zero, scalar-one, conjugate, delta, dot, zero-ket, zero-bra, zero-operator, identity, basis-ket, basis-bra, adjoint, scale, tensor, mulk, mulb, outer, mulo, big-sum}
+use Rattle.term.specs.Heads.{Label, Head, unknown, named, fixed, counted, heads, unread, labelled, reading, read, resultOf, childOf, index-product, pair, scalar-zero, scalar-one, conjugate}
+use Rattle.term.specs.Heads.{delta, dot, zero-ket, zero-bra, zero-operator, identity, basis-ket, basis-bra, adjoint, scale, tensor, mulk, mulb, outer, mulo, big-sum}
 use Rattle.term.specs.Terms.{maxBodies}
 use Rattle.term.proofs.Readings.{Every, every-at, _⨾_}
 use Rattle.typebook.specs.Code.Shapes.{shapeOf}
@@ -18,7 +19,8 @@ use Rattle.typebook.specs.Code.Lines.{concluded, rules, ruleAt, allAlike
 use Rattle.types.specs.Sorts.{Sort, index, basis, Context}
 use Rattle.types.specs.Inside.{binds}
 use Rattle.types.specs.TypeOf.{conclude}
-use Rattle.typebook.proofs.OnShapes.{shapes, ruled, ruled-is, on-index, on-basis, on-ket, on-bra, on-operator, on-scalar, on-same, on-array, on-body, left-product, one-adjoint, two-tensor, scalars-law, sum-law}
+use Rattle.typebook.proofs.OnShapes.{shapes, ruled, ruled-is, on-index, on-basis, on-ket, on-bra, on-operator, on-scalar, on-same, on-array, on-body, left-product, one-adjoint}
+use Rattle.typebook.proofs.OnShapes.{two-tensor, scalars-law, sum-law}
 
 abbrev pub lastOf : Sort → List Sort → Sort
 lastOf s [] = s

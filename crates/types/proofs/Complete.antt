@@ -7,7 +7,9 @@ use lib.ListN.{length}
 use Rattle.words.proofs.Runs.{same-words}
 use Rattle.term.specs.Trees.{Tree, Forest, words}
 use Rattle.types.specs.Sorts.{Sort, index, basis, scalar, ket, bra, operator, IsType, Context}
-use Rattle.types.specs.Rules.{_⊢_∶_, _⊢*_∶_, type-var, basis-var, term-var, sca-0, sca-1, sca-delta, sca-add, sca-mul, sca-conj, sca-dot, base-prod, pair-base, ket-0, ket-base, ket-adj, ket-scr, ket-add, ket-mulk, ket-tsr, bra-0, bra-base, bra-adj, bra-scr, bra-add, bra-mulb, bra-tsr, opt-0, opt-1, opt-adj, opt-scr, opt-add, opt-outer, opt-mulo, opt-tsr, bound-var, sum-over, every-none, every-more, WellFormed}
+use Rattle.types.specs.Rules.{_⊢_∶_, _⊢*_∶_, type-var, basis-var, term-var, sca-0, sca-1, sca-delta, sca-add, sca-mul, sca-conj, sca-dot, base-prod, pair-base, ket-0, ket-base}
+use Rattle.types.specs.Rules.{ket-adj, ket-scr, ket-add, ket-mulk, ket-tsr, bra-0, bra-base, bra-adj, bra-scr, bra-add, bra-mulb, bra-tsr, opt-0, opt-1, opt-adj, opt-scr, opt-add}
+use Rattle.types.specs.Rules.{opt-outer, opt-mulo, opt-tsr, bound-var, sum-over, every-none, every-more, WellFormed}
 use Rattle.types.specs.TypeOf.{Conclusion, gives, same, agree, agreeAll, bodyOf, conclude, typed, sorts, decide, typeOf, typesOf}
 use Rattle.types.proofs.Indices.{bind-well, index-tests}
 

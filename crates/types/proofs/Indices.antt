@@ -6,10 +6,11 @@ use Prim.Native.Nat.{ℕ, zero, suc, _-_, _<_}
 use native.Mathlib.Omega.{arith}
 use borrow.Author.Tests.{lt-ltb, le-leb, ne-eqb, ltb-true, leb-true}
 use lib.Dec.{eqb, leb, ltb}
-use lib.ListN.{length}
-use Rattle.term.specs.Heads.{Label, type-name, basis-name, variable, bound-basis, index-product, pair, scalar-zero, scalar-one, scalar-sum, scalar-product, conjugate, delta, dot, zero-ket, zero-bra, zero-operator, identity, basis-ket, basis-bra, adjoint, scale, add, tensor, mulk, mulb, outer, mulo, big-sum, headOf}
+use lib.ListN.{length, getD}
+use Rattle.term.specs.Heads.{Label, type-name, index-product, unknown, heads, headOf}
 use Rattle.term.specs.Trees.{Tree, Forest, node, none, _▹_, count, words}
 use Rattle.term.specs.Terms.{maxIndex}
+use Rattle.term.proofs.Readings.{Written, label-line}
 use Rattle.types.specs.Sorts.{Sort, index, basis, scalar, ket, bra, operator, Context, inBodies, bind, _⊠_, Short}
 use Rattle.types.specs.Rules.{_⊢_∶_, type-var, term-var, base-prod, sum-over, Proper, WellFormed}
 use Rattle.types.specs.Inside.{binds, behindFirst, later, inside, inside*}
@@ -113,39 +114,18 @@ module _ {Γ : Context} (W : WellFormed Γ) where
 -- a label by its head: a type name, a product of indices, or neither
 data Headed : Label → ℕ × ℕ → Type 0 where
   names : (a : ℕ) → Headed (type-name a) (1, a)
-  multiplies : Headed index-product (2, 0)
+  multiplies : {a : ℕ} → Headed index-product (2, a)
   neither : {l : Label} {p : ℕ × ℕ} → eqb (p .0) 1 ≡ false → eqb (p .0) 2 ≡ false → Headed l p
 
 headed : (l : Label) → Headed l (headOf l 0)
-unfolding headOf
-headed (type-name a) = names a
-headed index-product = multiplies
-headed (basis-name a) = neither refl refl
-headed (variable a) = neither refl refl
-headed (bound-basis a) = neither refl refl
-headed pair = neither refl refl
-headed scalar-zero = neither refl refl
-headed scalar-one = neither refl refl
-headed scalar-sum = neither refl refl
-headed scalar-product = neither refl refl
-headed conjugate = neither refl refl
-headed delta = neither refl refl
-headed dot = neither refl refl
-headed zero-ket = neither refl refl
-headed zero-bra = neither refl refl
-headed zero-operator = neither refl refl
-headed identity = neither refl refl
-headed basis-ket = neither refl refl
-headed basis-bra = neither refl refl
-headed adjoint = neither refl refl
-headed scale = neither refl refl
-headed add = neither refl refl
-headed tensor = neither refl refl
-headed mulk = neither refl refl
-headed mulb = neither refl refl
-headed outer = neither refl refl
-headed mulo = neither refl refl
-headed big-sum = neither refl refl
+unfolding heads
+headed l = go (headOf l 0 .0) (headOf l 0 .1) (label-line l 0)
+  where
+    go : (k a : ℕ) → Written l a (getD heads k unknown) → Headed l (k, a)
+    go zero a w = neither refl refl
+    go (suc zero) a w = let z : type-name a ≡ l = w in rw (← z) (names a)
+    go (suc (suc zero)) a w = let z : index-product ≡ l = w in rw (← z) multiplies
+    go (suc (suc (suc k))) a w = neither (ne-eqb (suc (suc (suc k))) 1 (omega arith)) (ne-eqb (suc (suc (suc k))) 2 (omega arith))
 
 -- what passes the test is an index
 wrong : (a b d e : Bool) → cond a (b && false) (d && (false && e)) ≡ true → ⊥

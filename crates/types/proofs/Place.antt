@@ -13,7 +13,7 @@ use Rattle.term.proofs.Parsing.{some-words}
 use Rattle.types.specs.Sorts.{Sort, Context}
 use Rattle.types.specs.Rules.{_⊢_∶_, WellFormed}
 use Rattle.types.specs.Inside.{later, inside, inside*}
-use Rattle.types.specs.TypeOf.{Conclusion, fails, gives, conclude, Typed, typed, untyped, Children, sorts, failed, decide, close, join, typeOf, typesOf}
+use Rattle.types.specs.TypeOf.{Conclusion, fails, gives, conclude, Inferred, typed, untyped, Children, sorts, failed, decide, close, join, typeOf, typesOf}
 use Rattle.types.specs.First.{HasSort, Earlier, First, FirstUntyped}
 use Rattle.types.proofs.Indices.{later-well}
 use Rattle.types.proofs.Complete.{complete}
@@ -39,7 +39,7 @@ mutual
       ]
 
 -- ---- the answers, with the place of the first untyped part
-pub data Verdict (Γ : Context) (at : ℕ) (t : Tree) : Typed → Type 0 where
+pub data Verdict (Γ : Context) (at : ℕ) (t : Tree) : Inferred → Type 0 where
   sorted : {S : Sort} → Γ ⊢ t ∶ S → Verdict Γ at t (typed S)
   unsorted : (i : ℕ) → First (inside Γ t) (subtree t) i → Verdict Γ at t (untyped (at + i))
 
@@ -137,7 +137,7 @@ module _ {Γ : Context} (W : WellFormed Γ) where
       let z : at + 1 + i ≡ at + suc i = omega arith in
       rw z (unsorted (suc i) (first-below l cs i p))
 
-  verdict-join : {Δ : Context} {at : ℕ} {t : Tree} {f : Forest} {a : Typed} {r : Children} → Verdict Γ at t a → Verdict* Δ Δ (at + length (words t)) f r → Verdict* Γ Δ at (t ▹ f) (join a r)
+  verdict-join : {Δ : Context} {at : ℕ} {t : Tree} {f : Forest} {a : Inferred} {r : Children} → Verdict Γ at t a → Verdict* Δ Δ (at + length (words t)) f r → Verdict* Γ Δ at (t ▹ f) (join a r)
   unfolding join
   verdict-join {t} {f} (sorted a) (all-sorted x) = all-sorted (each-more a x)
   verdict-join {Δ} {at} {t} {f} (sorted {S} a) (one-unsorted i p) =
@@ -156,7 +156,7 @@ mutual
   verdict* W X at (t ▹ f) = verdict-join W (verdict W at t) (verdict* X X (at + length (words t)) f)
 
 module _ {Γ : Context} (W : WellFormed Γ) where
-  first-by : {t : Tree} {a : Typed} {k : ℕ} → Verdict Γ 0 t a → a ≡ untyped k → FirstUntyped Γ t k
+  first-by : {t : Tree} {a : Inferred} {k : ℕ} → Verdict Γ 0 t a → a ≡ untyped k → FirstUntyped Γ t k
   first-by (sorted d) e = absurd (let z : _≡_ {A = ℕ} 0 1 = cc in omega arith)
   first-by {k} (unsorted i p) e = let z : 0 + i ≡ k = cc in let y : i ≡ k = omega arith in rw (← y) p
 
@@ -164,7 +164,7 @@ module _ {Γ : Context} (W : WellFormed Γ) where
   pub first-untyped : (t : Tree) (k : ℕ) → typeOf Γ 0 t ≡ untyped k → FirstUntyped Γ t k
   first-untyped t k e = first-by (verdict W 0 t) e
 
-  no-sort-by : {t : Tree} {a : Typed} → Verdict Γ 0 t a → (HasSort Γ t → ⊥) → (k : ℕ) × (a ≡ untyped k)
+  no-sort-by : {t : Tree} {a : Inferred} → Verdict Γ 0 t a → (HasSort Γ t → ⊥) → (k : ℕ) × (a ≡ untyped k)
   no-sort-by (sorted d) h = absurd (h (_, d))
   no-sort-by (unsorted i p) h = (0 + i, refl)
 

@@ -6,7 +6,9 @@ use Rattle.term.specs.Trees.{Tree, count, words, Formed}
 use Rattle.term.proofs.Readings.{read-at}
 use Rattle.term.proofs.Theorems.{one-reading}
 use Rattle.types.specs.Sorts.{Sort, index, Context, Short}
-use Rattle.types.specs.Rules.{_⊢_∶_, type-var, basis-var, term-var, sca-0, sca-1, sca-delta, sca-add, sca-mul, sca-conj, sca-dot, base-prod, pair-base, ket-0, ket-base, ket-adj, ket-scr, ket-add, ket-mulk, ket-tsr, bra-0, bra-base, bra-adj, bra-scr, bra-add, bra-mulb, bra-tsr, opt-0, opt-1, opt-adj, opt-scr, opt-add, opt-outer, opt-mulo, opt-tsr, bound-var, sum-over, Index, Proper, WellFormed}
+use Rattle.types.specs.Rules.{_⊢_∶_, type-var, basis-var, term-var, sca-0, sca-1, sca-delta, sca-add, sca-mul, sca-conj, sca-dot, base-prod, pair-base, ket-0, ket-base, ket-adj}
+use Rattle.types.specs.Rules.{ket-scr, ket-add, ket-mulk, ket-tsr, bra-0, bra-base, bra-adj, bra-scr, bra-add, bra-mulb, bra-tsr, opt-0, opt-1, opt-adj, opt-scr, opt-add, opt-outer}
+use Rattle.types.specs.Rules.{opt-mulo, opt-tsr, bound-var, sum-over, Index, Proper, WellFormed}
 use Rattle.types.proofs.Indices.{proper-in, bind-well}
 
 pub proper : {Γ : Context} → WellFormed Γ → {t : Tree} {S : Sort} → Γ ⊢ t ∶ S → Proper Γ S

@@ -9,19 +9,38 @@ use borrow.Author.Tests.{ltb-true, leb-true}
 use lib.Dec.{ltb}
 use lib.ListN.{length, getElem?}
 use Rattle.words.proofs.Runs.{same-words-eq}
-use Rattle.term.specs.Heads.{Label, type-name, basis-name, variable, index-product, pair, scalar-zero, scalar-one, scalar-sum, scalar-product, conjugate, delta, dot, zero-ket, zero-bra, zero-operator, identity, basis-ket, basis-bra, adjoint, scale, add, tensor, mulk, mulb, outer, mulo, bound-basis, big-sum}
+use Rattle.term.specs.Heads.{Label, type-name, basis-name, variable, index-product, pair, scalar-zero, scalar-one, scalar-sum, scalar-product, conjugate, delta, dot, zero-ket, zero-bra}
+use Rattle.term.specs.Heads.{zero-operator, identity, basis-ket, basis-bra, adjoint, scale, add, tensor, mulk, mulb, outer, mulo, bound-basis, big-sum}
 use Rattle.term.specs.Trees.{Tree, Forest, node, none, _▹_, words}
 use Rattle.term.specs.Terms.{maxBodies}
 use Rattle.types.specs.Sorts.{Sort, index, basis, scalar, ket, bra, operator, IsType, Context, bind, _⊠_, Short}
-use Rattle.types.specs.Rules.{_⊢_∶_, _⊢*_∶_, type-var, basis-var, term-var, sca-0, sca-1, sca-delta, sca-add, sca-mul, sca-conj, sca-dot, base-prod, pair-base, ket-0, ket-base, ket-adj, ket-scr, ket-add, ket-mulk, ket-tsr, bra-0, bra-base, bra-adj, bra-scr, bra-add, bra-mulb, bra-tsr, opt-0, opt-1, opt-adj, opt-scr, opt-add, opt-outer, opt-mulo, opt-tsr, bound-var, sum-over, every-none, every-more, Index, Proper, WellFormed}
+use Rattle.types.specs.Rules.{_⊢_∶_, _⊢*_∶_, type-var, basis-var, term-var, sca-0, sca-1, sca-delta, sca-add, sca-mul, sca-conj, sca-dot, base-prod, pair-base, ket-0, ket-base}
+use Rattle.types.specs.Rules.{ket-adj, ket-scr, ket-add, ket-mulk, ket-tsr, bra-0, bra-base, bra-adj, bra-scr, bra-add, bra-mulb, bra-tsr, opt-0, opt-1, opt-adj, opt-scr, opt-add}
+use Rattle.types.specs.Rules.{opt-outer, opt-mulo, opt-tsr, bound-var, sum-over, every-none, every-more, Index, Proper, WellFormed}
 use Rattle.types.specs.Inside.{behindFirst, later}
-use Rattle.types.specs.TypeOf.{Conclusion, fails, gives, same, short, nil, one, two, toIndex, toBasis, toScalar, toKet, toBra, toOperator, adjointOf, arrayOf, tensorOf, agree, andThen, agreeAll, scalarsOf, sumOf, listed, boundOf, bodyOf, conclude, Typed, typed, untyped, Children, sorts, failed, decide, close, join, typeOf, typesOf}
+use Rattle.types.specs.TypeOf.{Conclusion, fails, gives, same, short, nil, one, two, toIndex, toBasis, toScalar, toKet, toBra, toOperator, adjointOf, arrayOf, tensorOf, agree}
+use Rattle.types.specs.TypeOf.{andThen, agreeAll, scalarsOf, sumOf, listed, boundOf, bodyOf, conclude, Inferred, typed, untyped, Children, sorts, failed, decide, close, join, typeOf}
+use Rattle.types.specs.TypeOf.{typesOf}
 use Rattle.types.proofs.Indices.{index-is, later-well, index-tested}
 use Rattle.types.proofs.Complete.{complete}
 use Rattle.types.proofs.Proper.{proper, same-index}
 
 absurd-fails : {A : Type 0} {S : Sort} → fails ≡ gives S → A
 absurd-fails e = absurd (let z : _≡_ {A = ℕ} 0 1 = cc in omega arith)
+
+-- where a test refuses a sort
+no : {A B : Type 0} {S : Sort} → A → fails ≡ gives S → B
+no a e = absurd-fails e
+
+-- a law of every sort, from one of each kind
+pub by-sort : (P : Sort → Type 0) → ((σ : Tree) → P (index σ)) → ((σ : Tree) → P (basis σ)) → P scalar → ((σ : Tree) → P (ket σ)) → ((σ : Tree) → P (bra σ))
+    → ((σ τ : Tree) → P (operator σ τ)) → (s : Sort) → P s
+by-sort P i b c k r o (index σ) = i σ
+by-sort P i b c k r o (basis σ) = b σ
+by-sort P i b c k r o scalar = c
+by-sort P i b c k r o (ket σ) = k σ
+by-sort P i b c k r o (bra σ) = r σ
+by-sort P i b c k r o (operator σ τ) = o σ τ
 
 -- ---- children with their sorts, as derived: the first in one context, the others in another
 pub data Row : Forest → List Sort → Context → Context → Type 0 where
@@ -36,6 +55,13 @@ record Of (Γ : Context) (t : Tree) (F : Tree → Sort) (f : Tree → Conclusion
   σ : Tree
   is : Γ ⊢ t ∶ F σ
   rest : f σ ≡ gives S
+
+-- where the test of a sort is of one with an index
+abbrev Taken : Context → Sort → (Sort → (Tree → Conclusion) → Conclusion) → (Tree → Sort) → Tree → (Tree → Conclusion) → Sort → Type 0
+Taken Γ S to F t f s = Γ ⊢ t ∶ s → to s f ≡ gives S → Of Γ t F f S
+
+abbrev Takes : Context → Sort → (Sort → (Tree → Conclusion) → Conclusion) → (Tree → Sort) → Type 0
+Takes Γ S to F = (t : Tree) (s : Sort) (f : Tree → Conclusion) → Taken Γ S to F t f s
 
 record Of-operator (Γ : Context) (t : Tree) (f : Tree → Tree → Conclusion) (S : Sort) : Type 0 where
   σ : Tree
@@ -65,53 +91,24 @@ module _ {Γ : Context} {S : Sort} where
   both-of f (each-more a (each-more b each-none)) e = both _ _ a b e
   both-of f (each-more a (each-more b (each-more d g))) e = absurd-fails e
 
-  index-of : {t : Tree} (s : Sort) (f : Tree → Conclusion) → Γ ⊢ t ∶ s → toIndex s f ≡ gives S → Of Γ t index f S
-  index-of (index σ) f a e = record { σ = σ; is = a; rest = e }
-  index-of (basis σ) f a e = absurd-fails e
-  index-of scalar f a e = absurd-fails e
-  index-of (ket σ) f a e = absurd-fails e
-  index-of (bra σ) f a e = absurd-fails e
-  index-of (operator σ τ) f a e = absurd-fails e
+  index-of : Takes Γ S toIndex index
+  index-of t s f = by-sort (Taken Γ S toIndex index t f) (λ σ a e. record { σ = σ; is = a; rest = e }) (λ σ. no) no (λ σ. no) (λ σ. no) (λ σ τ. no) s
 
-  basis-of : {t : Tree} (s : Sort) (f : Tree → Conclusion) → Γ ⊢ t ∶ s → toBasis s f ≡ gives S → Of Γ t basis f S
-  basis-of (index σ) f a e = absurd-fails e
-  basis-of (basis σ) f a e = record { σ = σ; is = a; rest = e }
-  basis-of scalar f a e = absurd-fails e
-  basis-of (ket σ) f a e = absurd-fails e
-  basis-of (bra σ) f a e = absurd-fails e
-  basis-of (operator σ τ) f a e = absurd-fails e
+  basis-of : Takes Γ S toBasis basis
+  basis-of t s f = by-sort (Taken Γ S toBasis basis t f) (λ σ. no) (λ σ a e. record { σ = σ; is = a; rest = e }) no (λ σ. no) (λ σ. no) (λ σ τ. no) s
 
-  ket-of : {t : Tree} (s : Sort) (f : Tree → Conclusion) → Γ ⊢ t ∶ s → toKet s f ≡ gives S → Of Γ t ket f S
-  ket-of (index σ) f a e = absurd-fails e
-  ket-of (basis σ) f a e = absurd-fails e
-  ket-of scalar f a e = absurd-fails e
-  ket-of (ket σ) f a e = record { σ = σ; is = a; rest = e }
-  ket-of (bra σ) f a e = absurd-fails e
-  ket-of (operator σ τ) f a e = absurd-fails e
+  ket-of : Takes Γ S toKet ket
+  ket-of t s f = by-sort (Taken Γ S toKet ket t f) (λ σ. no) (λ σ. no) no (λ σ a e. record { σ = σ; is = a; rest = e }) (λ σ. no) (λ σ τ. no) s
 
-  bra-of : {t : Tree} (s : Sort) (f : Tree → Conclusion) → Γ ⊢ t ∶ s → toBra s f ≡ gives S → Of Γ t bra f S
-  bra-of (index σ) f a e = absurd-fails e
-  bra-of (basis σ) f a e = absurd-fails e
-  bra-of scalar f a e = absurd-fails e
-  bra-of (ket σ) f a e = absurd-fails e
-  bra-of (bra σ) f a e = record { σ = σ; is = a; rest = e }
-  bra-of (operator σ τ) f a e = absurd-fails e
+  bra-of : Takes Γ S toBra bra
+  bra-of t s f = by-sort (Taken Γ S toBra bra t f) (λ σ. no) (λ σ. no) no (λ σ. no) (λ σ a e. record { σ = σ; is = a; rest = e }) (λ σ τ. no) s
 
   operator-of : {t : Tree} (s : Sort) (f : Tree → Tree → Conclusion) → Γ ⊢ t ∶ s → toOperator s f ≡ gives S → Of-operator Γ t f S
-  operator-of (index σ) f a e = absurd-fails e
-  operator-of (basis σ) f a e = absurd-fails e
-  operator-of scalar f a e = absurd-fails e
-  operator-of (ket σ) f a e = absurd-fails e
-  operator-of (bra σ) f a e = absurd-fails e
-  operator-of (operator σ τ) f a e = record { σ = σ; τ = τ; is = a; rest = e }
+  operator-of {t} s f =
+      by-sort (λ s. Γ ⊢ t ∶ s → toOperator s f ≡ gives S → Of-operator Γ t f S) (λ σ. no) (λ σ. no) no (λ σ. no) (λ σ. no) (λ σ τ a e. record { σ = σ; τ = τ; is = a; rest = e }) s
 
   scalar-of : {t : Tree} (s : Sort) (c : Conclusion) → Γ ⊢ t ∶ s → toScalar s c ≡ gives S → (Γ ⊢ t ∶ scalar) × (c ≡ gives S)
-  scalar-of (index σ) c a e = absurd-fails e
-  scalar-of (basis σ) c a e = absurd-fails e
-  scalar-of scalar c a e = (a, e)
-  scalar-of (ket σ) c a e = absurd-fails e
-  scalar-of (bra σ) c a e = absurd-fails e
-  scalar-of (operator σ τ) c a e = absurd-fails e
+  scalar-of {t} s c = by-sort (λ s. Γ ⊢ t ∶ s → toScalar s c ≡ gives S → (Γ ⊢ t ∶ scalar) × (c ≡ gives S)) (λ σ. no) (λ σ. no) (λ a e. (a, e)) (λ σ. no) (λ σ. no) (λ σ τ. no) s
 
 cond-of : {S : Sort} (b : Bool) (c : Conclusion) → cond b c fails ≡ gives S → (b ≡ true) × (c ≡ gives S)
 cond-of true c e = (refl, e)
@@ -145,11 +142,11 @@ module _ {Γ : Context} (W : WellFormed Γ) {S : Sort} where
   agree-of (basis σ) t h a e = absurd-fails e
   agree-of scalar t h a e = let p = scalar-of t _ a e in (p .0, cc (p .1))
   agree-of (ket σ) t h a e =
-      let p = ket-of t _ a e in
+      let p = ket-of _ t _ a e in
       let r = same-of _ h (proper W (p .is)) (p .rest) in
       (rw (r .0) (p .is), cc (r .1))
   agree-of (bra σ) t h a e =
-      let p = bra-of t _ a e in
+      let p = bra-of _ t _ a e in
       let r = same-of _ h (proper W (p .is)) (p .rest) in
       (rw (r .0) (p .is), cc (r .1))
   agree-of (operator σ τ) t h a e =
@@ -182,33 +179,22 @@ module _ {Γ : Context} (W : WellFormed Γ) {S : Sort} where
       let q = cond-of _ _ (r .1) in
       rw (r .0) (at-sort (type-var (ltb-true _ _ (q .0))) (q .1))
 
-  basis-rule : {cs : Forest} {ss : List Sort} (a : ℕ) → Each Γ cs ss → conclude Γ (basis-name a) ss ≡ gives S → Γ ⊢ node (basis-name a) cs ∶ S
-  unfolding conclude
-  basis-rule a x e =
+  listed-rule : {A : Type 0} {cs : Forest} {ss : List Sort} (l : Label) (o : Option A) (F : A → Sort) → ((a : A) → o ≡ some a → Γ ⊢ node l none ∶ F a) → Each Γ cs ss → nil ss (listed o F) ≡ gives S
+      → Γ ⊢ node l cs ∶ S
+  listed-rule l o F k x e =
       let r = nil-of _ x e in
-      let q = listed-of _ _ (r .1) in
-      rw (r .0) (at-sort (basis-var (q .1)) (q .2))
+      let q = listed-of o F (r .1) in
+      rw (r .0) (at-sort (k (q .0) (q .1)) (q .2))
 
-  product-rule : {cs : Forest} → Both Γ (λ s t. toIndex s λ σ. toIndex t λ τ. short (σ ⊠ τ) (gives (index (σ ⊠ τ)))) S cs → Γ ⊢ node index-product cs ∶ S
-  product-rule (both s t a b e) =
-      let p = index-of s _ a e in
-      let q = index-of t _ b (p .rest) in
+  -- two indices or two bases make a product
+  product-rule : {cs : Forest} (l : Label) (F : Tree → Sort) {to : Sort → (Tree → Conclusion) → Conclusion} → Takes Γ S to F
+      → ((t u σ τ : Tree) → Γ ⊢ t ∶ F σ → Γ ⊢ u ∶ F τ → Short (σ ⊠ τ) → Γ ⊢ node l (t ▹ u ▹ none) ∶ F (σ ⊠ τ)) → Both Γ (λ s t. to s λ σ. to t λ τ. short (σ ⊠ τ)
+      (gives (F (σ ⊠ τ)))) S cs → Γ ⊢ node l cs ∶ S
+  product-rule l F of k (both s t a b e) =
+      let p = of _ s _ a e in
+      let q = of _ t _ b (p .rest) in
       let r = short-of _ _ (q .rest) in
-      at-sort (base-prod (p .is) (q .is) (r .0)) (r .1)
-
-  variable-rule : {cs : Forest} {ss : List Sort} (a : ℕ) → Each Γ cs ss → conclude Γ (variable a) ss ≡ gives S → Γ ⊢ node (variable a) cs ∶ S
-  unfolding conclude
-  variable-rule a x e =
-      let r = nil-of _ x e in
-      let q = listed-of _ _ (r .1) in
-      rw (r .0) (at-sort (term-var (q .1)) (q .2))
-
-  pair-rule : {cs : Forest} → Both Γ (λ s t. toBasis s λ σ. toBasis t λ τ. short (σ ⊠ τ) (gives (basis (σ ⊠ τ)))) S cs → Γ ⊢ node pair cs ∶ S
-  pair-rule (both s t a b e) =
-      let p = basis-of s _ a e in
-      let q = basis-of t _ b (p .rest) in
-      let r = short-of _ _ (q .rest) in
-      at-sort (pair-base (p .is) (q .is) (r .0)) (r .1)
+      at-sort (k _ _ _ _ (p .is) (q .is) (r .0)) (r .1)
 
   -- the two scalar leaves, and the two scalar sums, are one argument each
   leaf-rule : {cs : Forest} {ss : List Sort} (l : Label) → Γ ⊢ node l none ∶ scalar → Each Γ cs ss → nil ss (gives scalar) ≡ gives S → Γ ⊢ node l cs ∶ S
@@ -226,34 +212,24 @@ module _ {Γ : Context} (W : WellFormed Γ) {S : Sort} where
   conjugate-rule : {cs : Forest} → Only Γ (λ s. toScalar s (gives scalar)) S cs → Γ ⊢ node conjugate cs ∶ S
   conjugate-rule (only s a e) = let p = scalar-of s _ a e in at-sort (sca-conj (p .0)) (p .1)
 
-  delta-rule : {cs : Forest} → Both Γ (λ s t. toBasis s λ σ. toBasis t λ τ. same σ τ (gives scalar)) S cs → Γ ⊢ node delta cs ∶ S
-  delta-rule (both s t a b e) =
-      let p = basis-of s _ a e in
-      let q = basis-of t _ b (p .rest) in
-      let r = same-of W _ (proper W (p .is)) (proper W (q .is)) (q .rest) in
-      at-sort (sca-delta (p .is) (rw (r .0) (q .is))) (r .1)
+  -- two with one index: delta and the product of a bra and a ket
+  same-rule : {cs : Forest} (l : Label) (F G : Tree → Sort) {to by : Sort → (Tree → Conclusion) → Conclusion} → Takes Γ S to F → Takes Γ S by G
+      → ((σ : Tree) → Proper Γ (F σ) → Index Γ σ) → ((σ : Tree) → Proper Γ (G σ) → Index Γ σ) → ((t u σ : Tree) → Γ ⊢ t ∶ F σ → Γ ⊢ u ∶ G σ → Γ ⊢ node l (t ▹ u ▹ none) ∶ scalar)
+      → Both Γ (λ s t. to s λ σ. by t λ τ. same σ τ (gives scalar)) S cs → Γ ⊢ node l cs ∶ S
+  same-rule l F G of by x y k (both s t a b e) =
+      let p = of _ s _ a e in
+      let q = by _ t _ b (p .rest) in
+      let r = same-of W _ (x _ (proper W (p .is))) (y _ (proper W (q .is))) (q .rest) in
+      at-sort (k _ _ _ (p .is) (rw (r .0) (q .is))) (r .1)
 
-  dot-rule : {cs : Forest} → Both Γ (λ s t. toBra s λ σ. toKet t λ τ. same σ τ (gives scalar)) S cs → Γ ⊢ node dot cs ∶ S
-  dot-rule (both s t a b e) =
-      let p = bra-of s _ a e in
-      let q = ket-of t _ b (p .rest) in
-      let r = same-of W _ (proper W (p .is)) (proper W (q .is)) (q .rest) in
-      at-sort (sca-dot (p .is) (rw (r .0) (q .is))) (r .1)
+  -- a head over one index or one basis, and over two that are kept apart
+  index-rule : {cs : Forest} (l : Label) (F G : Tree → Sort) {to : Sort → (Tree → Conclusion) → Conclusion} → Takes Γ S to F → ((s σ : Tree) → Γ ⊢ s ∶ F σ → Γ ⊢ node l (s ▹ none) ∶ G σ)
+      → Only Γ (λ s. to s λ σ. gives (G σ)) S cs → Γ ⊢ node l cs ∶ S
+  index-rule l F G of k (only s a e) = let p = of _ s _ a e in at-sort (k _ _ (p .is)) (p .rest)
 
-  -- a head over one index or one basis
-  index-rule : {cs : Forest} (l : Label) (F : Tree → Sort) → ((s σ : Tree) → Γ ⊢ s ∶ index σ → Γ ⊢ node l (s ▹ none) ∶ F σ)
-      → Only Γ (λ s. toIndex s λ σ. gives (F σ)) S cs → Γ ⊢ node l cs ∶ S
-  index-rule l F k (only s a e) = let p = index-of s _ a e in at-sort (k _ _ (p .is)) (p .rest)
-
-  basis-head-rule : {cs : Forest} (l : Label) (F : Tree → Sort) → ((s σ : Tree) → Γ ⊢ s ∶ basis σ → Γ ⊢ node l (s ▹ none) ∶ F σ)
-      → Only Γ (λ s. toBasis s λ σ. gives (F σ)) S cs → Γ ⊢ node l cs ∶ S
-  basis-head-rule l F k (only s a e) = let p = basis-of s _ a e in at-sort (k _ _ (p .is)) (p .rest)
-
-  zero-operator-rule : {cs : Forest} → Both Γ (λ s t. toIndex s λ σ. toIndex t λ τ. gives (operator σ τ)) S cs → Γ ⊢ node zero-operator cs ∶ S
-  zero-operator-rule (both s t a b e) =
-      let p = index-of s _ a e in
-      let q = index-of t _ b (p .rest) in
-      at-sort (opt-0 (p .is) (q .is)) (q .rest)
+  operator-rule : {cs : Forest} (l : Label) (F G : Tree → Sort) {to by : Sort → (Tree → Conclusion) → Conclusion} → Takes Γ S to F → Takes Γ S by G
+      → ((t u σ τ : Tree) → Γ ⊢ t ∶ F σ → Γ ⊢ u ∶ G τ → Γ ⊢ node l (t ▹ u ▹ none) ∶ operator σ τ) → Both Γ (λ s t. to s λ σ. by t λ τ. gives (operator σ τ)) S cs → Γ ⊢ node l cs ∶ S
+  operator-rule l F G of by k (both s t a b e) = let p = of _ s _ a e in let q = by _ t _ b (p .rest) in at-sort (k _ _ _ _ (p .is) (q .is)) (q .rest)
 
   adjoint-by : {t : Tree} (s : Sort) → Γ ⊢ t ∶ s → adjointOf s ≡ gives S → Γ ⊢ node adjoint (t ▹ none) ∶ S
   unfolding adjointOf
@@ -279,24 +255,19 @@ module _ {Γ : Context} (W : WellFormed Γ) {S : Sort} where
   scale-rule : {cs : Forest} → Both Γ (λ s t. toScalar s (arrayOf t)) S cs → Γ ⊢ node scale cs ∶ S
   scale-rule (both s t a b e) = let p = scalar-of s _ a e in scale-by t (p .0) b (p .1)
 
+  sum-at : {t : Tree} {f : Forest} {ss : List Sort} {s R : Sort} → Γ ⊢ t ∶ s → (Γ ⊢* f ∶ s → Γ ⊢ node add (t ▹ f) ∶ s) → Each Γ f ss → gives s ≡ gives R → agreeAll R ss ≡ gives S
+      → Γ ⊢ node add (t ▹ f) ∶ S
+  sum-at {s} {R} a k x h e = let z : s ≡ R = cc in let q = every-of W s S (proper W a) x (rw z e) in at-sort (k (q .0)) (ap gives (q .1))
+
   sum-by : {t : Tree} {f : Forest} {ss : List Sort} (s R : Sort) → Γ ⊢ t ∶ s → Each Γ f ss → arrayOf s ≡ gives R → agreeAll R ss ≡ gives S
       → Γ ⊢ node add (t ▹ f) ∶ S
   unfolding arrayOf
   sum-by (index σ) R a x h e = absurd-fails h
   sum-by (basis σ) R a x h e = absurd-fails h
   sum-by scalar R a x h e = absurd-fails h
-  sum-by (ket σ) R a x h e =
-      let z : ket σ ≡ R = cc in
-      let q = every-of W (ket σ) S (proper W a) x (rw z e) in
-      at-sort (ket-add a (q .0)) (ap gives (q .1))
-  sum-by (bra σ) R a x h e =
-      let z : bra σ ≡ R = cc in
-      let q = every-of W (bra σ) S (proper W a) x (rw z e) in
-      at-sort (bra-add a (q .0)) (ap gives (q .1))
-  sum-by (operator σ τ) R a x h e =
-      let z : operator σ τ ≡ R = cc in
-      let q = every-of W (operator σ τ) S (proper W a) x (rw z e) in
-      at-sort (opt-add a (q .0)) (ap gives (q .1))
+  sum-by (ket σ) R a x h e = sum-at a (ket-add a) x h e
+  sum-by (bra σ) R a x h e = sum-at a (bra-add a) x h e
+  sum-by (operator σ τ) R a x h e = sum-at a (opt-add a) x h e
 
   sum-rule : {cs : Forest} {ss : List Sort} → Each Γ cs ss → sumOf ss ≡ gives S → Γ ⊢ node add cs ∶ S
   unfolding sumOf
@@ -309,11 +280,11 @@ module _ {Γ : Context} (W : WellFormed Γ) {S : Sort} where
   tensor-by (basis σ) r a b e = absurd-fails e
   tensor-by scalar r a b e = absurd-fails e
   tensor-by (ket σ) r a b e =
-      let q = ket-of r _ b e in
+      let q = ket-of _ r _ b e in
       let p = short-of _ _ (q .rest) in
       at-sort (ket-tsr a (q .is) (p .0)) (p .1)
   tensor-by (bra σ) r a b e =
-      let q = bra-of r _ b e in
+      let q = bra-of _ r _ b e in
       let p = short-of _ _ (q .rest) in
       at-sort (bra-tsr a (q .is) (p .0)) (p .1)
   tensor-by (operator σ τ) r a b e =
@@ -328,22 +299,16 @@ module _ {Γ : Context} (W : WellFormed Γ) {S : Sort} where
   mulk-rule : {cs : Forest} → Both Γ (λ s t. toOperator s λ σ τ. toKet t λ υ. same τ υ (gives (ket σ))) S cs → Γ ⊢ node mulk cs ∶ S
   mulk-rule (both s t a b e) =
       let p = operator-of s _ a e in
-      let q = ket-of t _ b (p .rest) in
+      let q = ket-of _ t _ b (p .rest) in
       let r = same-of W _ (proper W (p .is) .1) (proper W (q .is)) (q .rest) in
       at-sort (ket-mulk (p .is) (rw (r .0) (q .is))) (r .1)
 
   mulb-rule : {cs : Forest} → Both Γ (λ s t. toBra s λ υ. toOperator t λ σ τ. same υ σ (gives (bra τ))) S cs → Γ ⊢ node mulb cs ∶ S
   mulb-rule (both s t a b e) =
-      let p = bra-of s _ a e in
+      let p = bra-of _ s _ a e in
       let q = operator-of t _ b (p .rest) in
       let r = same-of W _ (proper W (p .is)) (proper W (q .is) .0) (q .rest) in
       at-sort (bra-mulb (p .is) (operator-at (r .0) refl (q .is))) (r .1)
-
-  outer-rule : {cs : Forest} → Both Γ (λ s t. toKet s λ σ. toBra t λ τ. gives (operator σ τ)) S cs → Γ ⊢ node outer cs ∶ S
-  outer-rule (both s t a b e) =
-      let p = ket-of s _ a e in
-      let q = bra-of t _ b (p .rest) in
-      at-sort (opt-outer (p .is) (q .is)) (q .rest)
 
   mulo-rule : {cs : Forest} → Both Γ (λ s t. toOperator s λ σ τ. toOperator t λ υ ρ. same τ υ (gives (operator σ ρ))) S cs → Γ ⊢ node mulo cs ∶ S
   mulo-rule (both s t a b e) =
@@ -398,36 +363,36 @@ module _ {Γ : Context} (W : WellFormed Γ) {S : Sort} where
   pub derive : {cs ds : Forest} {ss : List Sort} (l : Label) → Row cs ss Γ (later Γ l cs) → Row ds ss Γ (later Γ l cs) → conclude Γ l ss ≡ gives S → Γ ⊢ node l ds ∶ S
   unfolding conclude later
   derive (type-name a) o x e = type-rule a x e
-  derive (basis-name a) o x e = basis-rule a x e
-  derive (variable a) o x e = variable-rule a x e
-  derive index-product o x e = product-rule (both-of _ x e)
-  derive pair o x e = pair-rule (both-of _ x e)
+  derive (basis-name a) o x e = listed-rule (basis-name a) (getElem? (Γ .bases) a) basis (λ σ. basis-var) x e
+  derive (variable a) o x e = listed-rule (variable a) (getElem? (Γ .variables) a) (λ R. R) (λ R. term-var) x e
+  derive index-product o x e = product-rule index-product index index-of (λ t u σ τ. base-prod) (both-of _ x e)
+  derive pair o x e = product-rule pair basis basis-of (λ t u σ τ. pair-base) (both-of _ x e)
   derive scalar-zero o x e = leaf-rule scalar-zero sca-0 x e
   derive scalar-one o x e = leaf-rule scalar-one sca-1 x e
   derive scalar-sum o x e = scalars-rule scalar-sum (λ t f. sca-add) x e
   derive scalar-product o x e = scalars-rule scalar-product (λ t f. sca-mul) x e
   derive conjugate o x e = conjugate-rule (only-of _ x e)
-  derive delta o x e = delta-rule (both-of _ x e)
-  derive dot o x e = dot-rule (both-of _ x e)
-  derive zero-ket o x e = index-rule zero-ket ket (λ s σ. ket-0) (only-of _ x e)
-  derive zero-bra o x e = index-rule zero-bra bra (λ s σ. bra-0) (only-of _ x e)
-  derive zero-operator o x e = zero-operator-rule (both-of _ x e)
-  derive identity o x e = index-rule identity (λ σ. operator σ σ) (λ s σ. opt-1) (only-of _ x e)
-  derive basis-ket o x e = basis-head-rule basis-ket ket (λ s σ. ket-base) (only-of _ x e)
-  derive basis-bra o x e = basis-head-rule basis-bra bra (λ s σ. bra-base) (only-of _ x e)
+  derive delta o x e = same-rule delta basis basis basis-of basis-of (λ σ h. h) (λ σ h. h) (λ t u σ. sca-delta) (both-of _ x e)
+  derive dot o x e = same-rule dot bra ket bra-of ket-of (λ σ h. h) (λ σ h. h) (λ t u σ. sca-dot) (both-of _ x e)
+  derive zero-ket o x e = index-rule zero-ket index ket index-of (λ s σ. ket-0) (only-of _ x e)
+  derive zero-bra o x e = index-rule zero-bra index bra index-of (λ s σ. bra-0) (only-of _ x e)
+  derive zero-operator o x e = operator-rule zero-operator index index index-of index-of (λ t u σ τ. opt-0) (both-of _ x e)
+  derive identity o x e = index-rule identity index (λ σ. operator σ σ) index-of (λ s σ. opt-1) (only-of _ x e)
+  derive basis-ket o x e = index-rule basis-ket basis ket basis-of (λ s σ. ket-base) (only-of _ x e)
+  derive basis-bra o x e = index-rule basis-bra basis bra basis-of (λ s σ. bra-base) (only-of _ x e)
   derive adjoint o x e = adjoint-rule (only-of _ x e)
   derive scale o x e = scale-rule (both-of _ x e)
   derive add o x e = sum-rule x e
   derive tensor o x e = tensor-rule (both-of _ x e)
   derive mulk o x e = mulk-rule (both-of _ x e)
   derive mulb o x e = mulb-rule (both-of _ x e)
-  derive outer o x e = outer-rule (both-of _ x e)
+  derive outer o x e = operator-rule outer ket bra ket-of bra-of (λ t u σ τ. opt-outer) (both-of _ x e)
   derive mulo o x e = mulo-rule (both-of _ x e)
   derive (bound-basis a) o x e = bound-rule a x e
   derive big-sum o x e = over-rule o x e
 
 -- ---- the function
-data Answered (Γ : Context) (at : ℕ) (t : Tree) : Typed → Type 0 where
+data Answered (Γ : Context) (at : ℕ) (t : Tree) : Inferred → Type 0 where
   has-sort : {S : Sort} → Γ ⊢ t ∶ S → Answered Γ at t (typed S)
   has-none : {k : ℕ} → Answered Γ at t (untyped k)
 
@@ -446,7 +411,7 @@ module _ {Γ : Context} (W : WellFormed Γ) where
   closed at l (have-sorts {ss} x) = decided at l x (conclude Γ l ss) refl
   closed at l have-none = has-none
 
-joined : {Γ Δ : Context} {t : Tree} {f : Forest} {at : ℕ} {a : Typed} {r : Children} → Answered Γ at t a → Answered* Δ Δ f r → Answered* Γ Δ (t ▹ f) (join a r)
+joined : {Γ Δ : Context} {t : Tree} {f : Forest} {at : ℕ} {a : Inferred} {r : Children} → Answered Γ at t a → Answered* Δ Δ f r → Answered* Γ Δ (t ▹ f) (join a r)
 unfolding join
 joined (has-sort a) (have-sorts x) = have-sorts (each-more a x)
 joined (has-sort a) have-none = have-none
@@ -462,7 +427,7 @@ mutual
   answered* W X at none = have-sorts each-none
   answered* W X at (t ▹ f) = joined (answered W at t) (answered* X X (at + length (words t)) f)
 
-sound-by : {Γ : Context} {at : ℕ} {t : Tree} {a : Typed} {S : Sort} → Answered Γ at t a → a ≡ typed S → Γ ⊢ t ∶ S
+sound-by : {Γ : Context} {at : ℕ} {t : Tree} {a : Inferred} {S : Sort} → Answered Γ at t a → a ≡ typed S → Γ ⊢ t ∶ S
 sound-by {S} (has-sort {S = R} d) e = let z : R ≡ S = cc in at-sort d (ap gives z)
 sound-by has-none e = absurd (let z : _≡_ {A = ℕ} 0 1 = cc in omega arith)
 

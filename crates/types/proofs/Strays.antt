@@ -1,16 +1,19 @@
 -- The function names the first stray part, and a typed part has none.
 use mathlib.Core.Path.{_≡_, refl, sym, _∙_, ap}
-use mathlib.Core.Bool.{Bool, true, false, cond}
+use mathlib.Core.Bool.{Bool, true, false, cond, _&&_, and-eq-true-iff}
 use mathlib.Core.List.{List, [], _∷_}
 use mathlib.Core.Option.{Option, some, none as nothing}
 use Prim.Native.Nat.{ℕ, zero, suc, _+_, _-_, _≤_, _<_}
 use native.Mathlib.Decide.{decLt}
 use native.Mathlib.Omega.{arith}
-use borrow.Author.Tests.{lt-ltb, le-ltb, le-leb, leb-true}
-use lib.ListN.{length, getElem?}
+use borrow.Author.Tests.{lt-ltb, le-ltb, le-leb, leb-true, eqb-true}
+use lib.Dec.{eqb, leb}
+use lib.ListN.{length, getD, getElem?}
 use Rattle.words.specs.Listed.{orElse}
-use Rattle.term.specs.Heads.{Label, type-name, basis-name, variable, bound-basis, big-sum, index-product, pair, scalar-zero, scalar-one, scalar-sum, scalar-product, conjugate, delta, dot, zero-ket, zero-bra, zero-operator, identity, basis-ket, basis-bra, adjoint, scale, add, tensor, mulk, mulb, outer, mulo, headOf}
+use Rattle.term.specs.Heads.{Label, bound-basis, big-sum, unknown, heads, headOf}
 use Rattle.term.specs.Trees.{Tree, Forest, node, none, _▹_, words, Subtree, found, subtree, subtree*}
+use Rattle.term.specs.Terms.{maxBodies}
+use Rattle.term.proofs.Readings.{Written, label-line}
 use Rattle.term.proofs.Parsing.{some-words}
 use Rattle.types.specs.Sorts.{Sort, Context}
 use Rattle.types.specs.Rules.{_⊢_∶_, bound-var, sum-over}
@@ -30,35 +33,14 @@ no-such : {A : Type 0} → false ≡ true → A
 no-such e = absurd (let z : _≡_ {A = ℕ} 0 1 = cc in omega arith)
 
 stray-tested : (l : Label) (f : Forest) (n : ℕ) → isStray l n ≡ true → Stray (node l f) n
-unfolding isStray headOf
-stray-tested (bound-basis a) f n e = unbound (leb-true _ _ e)
-stray-tested big-sum f n e = ninth (leb-true _ _ e)
-stray-tested (type-name a) f n e = no-such e
-stray-tested (basis-name a) f n e = no-such e
-stray-tested (variable a) f n e = no-such e
-stray-tested index-product f n e = no-such e
-stray-tested pair f n e = no-such e
-stray-tested scalar-zero f n e = no-such e
-stray-tested scalar-one f n e = no-such e
-stray-tested scalar-sum f n e = no-such e
-stray-tested scalar-product f n e = no-such e
-stray-tested conjugate f n e = no-such e
-stray-tested delta f n e = no-such e
-stray-tested dot f n e = no-such e
-stray-tested zero-ket f n e = no-such e
-stray-tested zero-bra f n e = no-such e
-stray-tested zero-operator f n e = no-such e
-stray-tested identity f n e = no-such e
-stray-tested basis-ket f n e = no-such e
-stray-tested basis-bra f n e = no-such e
-stray-tested adjoint f n e = no-such e
-stray-tested scale f n e = no-such e
-stray-tested add f n e = no-such e
-stray-tested tensor f n e = no-such e
-stray-tested mulk f n e = no-such e
-stray-tested mulb f n e = no-such e
-stray-tested outer f n e = no-such e
-stray-tested mulo f n e = no-such e
+unfolding isStray heads
+stray-tested l f n e = go (headOf l 0 .0) (headOf l 0 .1) (label-line l 0) (eqb (headOf l 0 .0) 28) refl e
+  where
+    go : (k a : ℕ) → Written l a (getD heads k unknown) → (b : Bool) → eqb k 28 ≡ b → cond b (leb n a) (eqb k 27 && leb maxBodies n) ≡ true → Stray (node l f) n
+    go k a w true x e = let z : bound-basis a ≡ l = rw (eqb-true k 28 x) at w in rw (← z) (unbound (leb-true _ _ e))
+    go k a w false x e =
+        let p = and-eq-true-iff (eqb k 27) _ .0 e in
+        let z : big-sum ≡ l = rw (eqb-true k 27 (p .0)) at w in rw (← z) (ninth (leb-true _ _ (p .1)))
 
 -- the bodies around the later children
 bodies : (Γ : Context) (l : Label) (t : Tree) (f : Forest) → cond (binds l) (suc (length (Γ .bound))) (length (Γ .bound)) ≡ length (later Γ l (t ▹ f) .bound)

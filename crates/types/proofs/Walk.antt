@@ -8,10 +8,10 @@ use Rattle.term.specs.Heads.{Label}
 use Rattle.term.specs.Trees.{Tree, Forest, node, none, _▹_, count, _⧺_, words, words*}
 use Rattle.types.specs.Sorts.{Sort, Context}
 use Rattle.types.specs.Inside.{later}
-use Rattle.types.specs.TypeOf.{Conclusion, fails, gives, conclude, Typed, typed, untyped, Children, sorts, failed, decide, close, join, typeOf, typesOf}
+use Rattle.types.specs.TypeOf.{Conclusion, fails, gives, conclude, Inferred, typed, untyped, Children, sorts, failed, decide, close, join, typeOf, typesOf}
 
 -- ---- an offset moves an answer along
-shifted : ℕ → Typed → Typed
+shifted : ℕ → Inferred → Inferred
 shifted n (typed S) = typed S
 shifted n (untyped k) = untyped (n + k)
 
@@ -29,7 +29,7 @@ unfolding close shifted shifted*
 shift-close Γ n at l (sorts ss) = shift-decide n at (conclude Γ l ss)
 shift-close Γ n at l (failed k) = refl
 
-shift-join : (n : ℕ) (a : Typed) (r : Children) → join (shifted n a) (shifted* n r) ≡ shifted* n (join a r)
+shift-join : (n : ℕ) (a : Inferred) (r : Children) → join (shifted n a) (shifted* n r) ≡ shifted* n (join a r)
 unfolding join shifted shifted*
 shift-join n (untyped k) r = refl
 shift-join n (typed s) (failed k) = refl
@@ -68,7 +68,7 @@ unfolding follow
 follow-none (failed k) = refl
 follow-none (sorts ss) = refl
 
-follow-join : (a : Typed) (r q : Children) → join a (follow r q) ≡ follow (join a r) q
+follow-join : (a : Inferred) (r q : Children) → join a (follow r q) ≡ follow (join a r) q
 unfolding follow join
 follow-join (untyped k) r q = refl
 follow-join (typed s) (failed k) q = refl

@@ -5,7 +5,8 @@ use mathlib.Core.Path.{_≡_}
 use mathlib.Core.Option.{some}
 use Prim.Native.Nat.{ℕ, _≤_, _<_}
 use lib.ListN.{length, getElem?}
-use Rattle.term.specs.Heads.{type-name, basis-name, variable, index-product, pair, scalar-zero, scalar-one, scalar-sum, scalar-product, conjugate, delta, dot, zero-ket, zero-bra, zero-operator, identity, basis-ket, basis-bra, adjoint, scale, add, tensor, mulk, mulb, outer, mulo, bound-basis, big-sum}
+use Rattle.term.specs.Heads.{type-name, basis-name, variable, index-product, pair, scalar-zero, scalar-one, scalar-sum, scalar-product, conjugate, delta, dot, zero-ket, zero-bra}
+use Rattle.term.specs.Heads.{zero-operator, identity, basis-ket, basis-bra, adjoint, scale, add, tensor, mulk, mulb, outer, mulo, bound-basis, big-sum}
 use Rattle.term.specs.Trees.{Tree, Forest, node, none, _▹_}
 use Rattle.term.specs.Terms.{maxNames, maxBodies, IsTerm}
 use Rattle.types.specs.Sorts.{Sort, index, basis, scalar, ket, bra, operator, IsType, Context, bind, countsOf, _⊠_, Short}

@@ -7,7 +7,8 @@ use Prim.Native.Nat.{ℕ, _+_}
 use lib.Dec.{eqb, leb, ltb}
 use lib.ListN.{length, getElem?}
 use Rattle.words.specs.Words.{sameWords}
-use Rattle.term.specs.Heads.{Label, type-name, basis-name, variable, index-product, pair, scalar-zero, scalar-one, scalar-sum, scalar-product, conjugate, delta, dot, zero-ket, zero-bra, zero-operator, identity, basis-ket, basis-bra, adjoint, scale, add, tensor, mulk, mulb, outer, mulo, bound-basis, big-sum, headOf}
+use Rattle.term.specs.Heads.{Label, type-name, basis-name, variable, index-product, pair, scalar-zero, scalar-one, scalar-sum, scalar-product, conjugate, delta, dot, zero-ket, zero-bra}
+use Rattle.term.specs.Heads.{zero-operator, identity, basis-ket, basis-bra, adjoint, scale, add, tensor, mulk, mulb, outer, mulo, bound-basis, big-sum, headOf}
 use Rattle.term.specs.Trees.{Tree, Forest, node, none, _▹_, count, words}
 use Rattle.term.specs.Terms.{maxIndex, maxBodies}
 use Rattle.types.specs.Sorts.{Sort, index, basis, scalar, ket, bra, operator, Context, _⊠_}
@@ -217,24 +218,24 @@ conclude Γ big-sum ss = two ss λ s t. toIndex s λ σ. cond (ltb (length (Γ .
 
 -- ---- the type of a part at an offset, or the offset of the first untyped part: that ends first, and among equal ends begins last (01, code 10).
 -- Children come before their parent, from left to right: so the first that fails is that one
-pub data Typed : Type 0 where
-  typed : Sort → Typed
-  untyped : ℕ → Typed
+pub data Inferred : Type 0 where
+  typed : Sort → Inferred
+  untyped : ℕ → Inferred
 
 pub data Children : Type 0 where
   sorts : List Sort → Children
   failed : ℕ → Children
 
-unfoldable pub decide : ℕ → Conclusion → Typed
+unfoldable pub decide : ℕ → Conclusion → Inferred
 decide at fails = untyped at
 decide at (gives S) = typed S
 
-unfoldable pub close : Context → ℕ → Label → Children → Typed
+unfoldable pub close : Context → ℕ → Label → Children → Inferred
 unfolding decide
 close Γ at l (failed k) = untyped k
 close Γ at l (sorts ss) = decide at (conclude Γ l ss)
 
-unfoldable pub join : Typed → Children → Children
+unfoldable pub join : Inferred → Children → Children
 join (untyped k) r = failed k
 join (typed s) (failed k) = failed k
 join (typed s) (sorts ss) = sorts (s ∷ ss)
@@ -242,7 +243,7 @@ join (typed s) (sorts ss) = sorts (s ∷ ss)
 unfoldable mutual
   unfolding close join later
 
-  pub typeOf : Context → ℕ → Tree → Typed
+  pub typeOf : Context → ℕ → Tree → Inferred
   typeOf Γ at (node l cs) = close Γ at l (typesOf Γ (later Γ l cs) (at + 1) cs)
 
   -- of a row of children, the first in one context and the others in another

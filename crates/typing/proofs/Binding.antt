@@ -27,7 +27,7 @@ use Rattle.typing.specs.declared.sorts.Sorted as S
 use Rattle.typing.specs.Code.Shapes.{run, shapeAt, Small, Room, Above, Answers}
 use Rattle.typing.specs.Code.Chains.{Around, aroundOf, linkAt, indexWords, Sum, Chained, unbound, bound, Held, indexLen, recordAt, inReach}
 use Rattle.typing.specs.Code.Verdicts.{indexShape, boundShape}
-use Rattle.typing.proofs.Lying.{run-length, run-both, run-kept, above-refl, above-laid, laid-both, shape-laid, set-laid}
+use Rattle.typing.proofs.Lying.{not-both, run-length, run-both, run-kept, above-refl, above-laid, laid-both, shape-laid, set-laid}
 
 -- ---- contexts
 pub well-at : (ds : List ℕ) → goodDeclarations ds ≡ true → (bs : List Tree) → WellFormed (contextAt ds bs)
@@ -118,7 +118,8 @@ chained-up {high} {inner} h (unbound k) = unbound {top = high} {inner = inner} (
 chained-up h (bound s c) = bound (sum-up h s) c
 
 -- ---- the record of one of the sums
-sum-at : {types : ℕ} {st : List ℕ} {top inner : ℕ} {bs : List Tree} → Chained types st top inner bs → (a : ℕ) → a < length bs → (σ : Tree) × (getElem? bs a ≡ some σ) × Sum types st top (linkAt st inner a) σ
+sum-at : {types : ℕ} {st : List ℕ} {top inner : ℕ} {bs : List Tree} → Chained types st top inner bs → (a : ℕ) → a < length bs
+    → (σ : Tree) × (getElem? bs a ≡ some σ) × Sum types st top (linkAt st inner a) σ
 unfolding linkAt
 sum-at (unbound h) a l = absurd (omega arith)
 sum-at (bound {σ = σ} s c) zero l = (σ, refl, s)
@@ -153,8 +154,8 @@ module _ {types : ℕ} {st : List ℕ} {top : ℕ} {around : Around} (x : Held t
     where
       go : (b : Bool) → (b && ltb a (around .bodies)) ≡ false
           → Answers (given b (indexShape types (getElem? (x .trees) a))) (record { typed = false; sorted = record { class = Basis; left = 0; right = 0 } }) top st st
-      go true e = let l = x .long in let z = ltb-false a (around .bodies) e in rw (past (x .trees) a (omega arith)) (record { told = refl; small = λ y. absurd (let z : _≡_ {A = ℕ} 0 1 = cc in omega arith); kept = above-refl top st })
-      go false e = record { told = refl; small = λ y. absurd (let z : _≡_ {A = ℕ} 0 1 = cc in omega arith); kept = above-refl top st }
+      go true e = let l = x .long in let z = ltb-false a (around .bodies) e in rw (past (x .trees) a (omega arith)) (record { told = refl; small = λ y. not-both y refl; kept = above-refl top st })
+      go false e = record { told = refl; small = λ y. not-both y refl; kept = above-refl top st }
 
   pub bound-sum : a < around .bodies → (σ : Tree) × (getElem? (x .trees) a ≡ some σ) × Sum types st top (linkAt st (around .inner) a) σ
   bound-sum h = let l = x .long in sum-at (x .chain) a (omega arith)
@@ -177,7 +178,8 @@ told-by types σ st top n room few ws l e = go (indexTree types σ) refl e
         let z : n ≡ 0 = omega (arith, ap length q) in
         record { told = rw (le-ltb 0 n (omega arith)); small = λ y. (few, omega arith); kept = kept }
 
-module _ {types : ℕ} {st : List ℕ} {top : ℕ} {around : Around} (x : Held types st top around) (a : ℕ) (near : inReach (around .bodies) a ≡ true) {at n : ℕ} (place : at ≡ linkAt st (around .inner) a) (size : n ≡ getD st at 0) where
+module _ {types : ℕ} {st : List ℕ} {top : ℕ} {around : Around} (x : Held types st top around) (a : ℕ) (near : inReach (around .bodies) a ≡ true) {at n : ℕ} (place : at ≡ linkAt st (around .inner) a)
+    (size : n ≡ getD st at 0) where
   -- its index lies below the offset
   pub bound-room : (at + 2 ≤ top) × (n ≤ at) × (n ≤ 63)
   bound-room = let s = bound-sum x a (reached near .1) .2 in (rw place (s .low), rw (size, place) (s .back), rw (size, place) (s .few))
@@ -227,7 +229,8 @@ two-set st at a b h =
     let l = length-set st at a in
     rw (set-laid (set st at a) (at + 1) b (omega arith), set-laid st at a (omega arith)) (laid-both st at (a ∷ []) (b ∷ []) (omega arith))
 
-pub chained-more : (types : ℕ) {Γ : Context} → WellFormed Γ → Γ .types ≡ types → {c : Tree} (s : Sort) → Γ ⊢ c ∶ s → (st : List ℕ) (top : ℕ) (f : S.Sorted) {inner : ℕ} {bs : List Tree} → Room top st → recordAt top f + 2 ≤ length st
+pub chained-more : (types : ℕ) {Γ : Context} → WellFormed Γ → Γ .types ≡ types → {c : Tree} (s : Sort) → Γ ⊢ c ∶ s → (st : List ℕ) (top : ℕ) (f : S.Sorted) {inner : ℕ} {bs : List Tree} → Room top st
+    → recordAt top f + 2 ≤ length st
     → Small f → shapeAt st top f ≡ shapeOf s → Chained types st top inner bs → Chained types (laid st (recordAt top f) (indexLen f ∷ inner ∷ [])) (recordAt top f + 2) (recordAt top f) (c ∷ bs)
 chained-more types {Γ} W t {c} s d st top f {inner} {bs} room fits small e chain =
     let at = recordAt top f in
@@ -236,6 +239,7 @@ chained-more types {Γ} W t {c} s d st top f {inner} {bs} room fits small e chai
     let few = index-few f in
     let two = two-laid st at n inner fits in
     let a : Above at st st′ = above-laid st at (n ∷ inner ∷ []) fits in
-    let is : run st′ (at - n) n ≡ indexWords types c = run-kept at st st′ (a .below) (at - n) n (omega arith) ∙ first-words st top f s room small e ∙ sym (index-words W s d) ∙ ap (λ (k : ℕ). indexWords k c) t in
+    let is : run st′ (at - n) n ≡ indexWords types c = run-kept at st st′ (a .below) (at - n) n (omega arith) ∙ first-words st top f s room small e ∙ sym (index-words W s d) ∙ ap
+    (λ (k : ℕ). indexWords k c) t in
     let sum : Sum types st′ (at + 2) at c = record { low = omega arith; back = rw (two .0) (omega arith); few = rw (two .0) (omega arith); is = rw (two .0) is } in
     bound {bs = bs} sum (rw (two .1) (chained-kept (a .below) (chained-up (omega arith) chain)))

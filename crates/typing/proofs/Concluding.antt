@@ -21,7 +21,7 @@ use Rattle.typebook.specs.Code.Shapes.{Shape, shape, given}
 use Rattle.typing.specs.Code.Shapes.{shapeAt, run, runAt, Inside, Small, Ready}
 use Rattle.typebook.specs.Code.Lines.{ruleAt, pieceOf, pairOf, sideOf, shortBoth, fitted, met, classBy, shaped, byLine, childrenOf}
 use Rattle.typing.specs.Code.Conclude.{placeOf, sideSize, product, leftAt, rightAt, rowsOf, columnsOf, planOf, standing, sidesOf, Laying, Concludes}
-use Rattle.typing.proofs.Lying.{run-length, run-both, above-refl, above-laid, shape-laid, laid-same}
+use Rattle.typing.proofs.Lying.{not-both, run-length, run-both, above-refl, above-laid, shape-laid, laid-same}
 
 -- ---- where an index stands by its digit
 pub no-piece : {A : Type 0} (d a b c e : A) (k : ℕ) → k ≢ 1 → k ≢ 2 → k ≢ 3 → k ≢ 4 → getD (d ∷ a ∷ b ∷ c ∷ e ∷ []) k d ≡ d
@@ -92,12 +92,15 @@ in-place {st} {p} {top} {g} h n a b =
     rw (n, stands-run st (p .left) top a, stands-run st (p .right) (top + p .left .len) b) (sym (laid-same st top (p .left .len) (p .right .len) (omega (arith, h .ready .room))))
 
 -- one product of two that stand one behind the other
-pub inserted : {st : List ℕ} {p : P.Plan} {top : ℕ} {g : G.Gathered} → Laying st p top g → p .product ≡ true → standing (p .left) top ≡ true → p .left .len ≢ 0 → p .right .len ≡ 0 → g .at ≡ top + p .left .len
+pub inserted : {st : List ℕ} {p : P.Plan} {top : ℕ} {g : G.Gathered} → Laying st p top g → p .product ≡ true → standing (p .left) top ≡ true → p .left .len ≢ 0 → p .right .len ≡ 0
+    → g .at ≡ top + p .left .len
     → laid st top (512 ∷ run st top (p .left .len + g .latest .left)) ≡ laid st top (sidesOf st p top g)
 unfolding sideOf pairOf
 inserted {st} {p} {top} {g} h y s full right next =
     let l = run-length st (p .left .at) (p .left .len) (h .left-inside) in
-    rw (y, pair-some (runAt st (p .left)) (runAt st (placeOf 3 top g)) (λ z. full (sym l ∙ z)), right, append-nil (runAt st (p .left) ++ runAt st (placeOf 3 top g)), stands-run st (p .left) top s, next, run-both st top (p .left .len) (g .latest .left))
+    let i = runAt st (p .left) in
+    let j = runAt st (placeOf 3 top g) in
+    rw (y, pair-some i j (λ z. full (sym l ∙ z)), right, append-nil (i ++ j), stands-run st (p .left) top s, next, run-both st top (p .left .len) (g .latest .left))
 
 -- one side behind the other, made apart
 pub record Made (ws out′ : List ℕ) (e : ℕ) : Type 0 where
@@ -105,13 +108,18 @@ pub record Made (ws out′ : List ℕ) (e : ℕ) : Type 0 where
   pub inside : e ≤ length out′
   pub is : take e out′ ≡ ws
 
-pub made : {out mid out′ : List ℕ} {n e : ℕ} (i j : List ℕ) → Added out 0 i mid n → Added mid n j out′ e → length (i ++ j) ≤ length out → Made (i ++ j) out′ e
+made : {out mid out′ : List ℕ} {n e : ℕ} (i j : List ℕ) → Added out 0 i mid n → Added mid n j out′ e → length (i ++ j) ≤ length out → Made (i ++ j) out′ e
 made {e = e} i j p q h =
     let a = added-both p q in
     let z : 0 + length (i ++ j) ≡ length (i ++ j) = omega arith in
     let k = rw z at (a .end) in
     let m : e ≡ length (i ++ j) = omega arith in
     record { end = m; inside = omega (arith, a .size); is = rw m (rw z at (a .front (omega arith))) }
+
+pub sides-made : {st : List ℕ} {p : P.Plan} {top : ℕ} {g : G.Gathered} {out mid out′ : List ℕ} {n e : ℕ} {q r : R.Run} → Laying st p top g → q ≡ placeOf 3 top g → r ≡ placeOf 4 top g → 126 ≤ length
+    out
+    → Added out 0 (sideOf (p .product) (runAt st (p .left)) (runAt st q)) mid n → Added mid n (sideOf (p .product) (runAt st (p .right)) (runAt st r)) out′ e → Made (sidesOf st p top g) out′ e
+sides-made h x y l a b = let few = h .few in made _ _ (rw x at a) (rw y at b) (omega arith)
 
 -- the first leaves room
 pub made-room : {out mid : List ℕ} {n : ℕ} (i j : List ℕ) → Added out 0 i mid n → length (i ++ j) ≤ 126 → 126 < length out → n < length mid
@@ -137,7 +145,8 @@ module _ (st : List ℕ) (p q : R.Run) {out out′ : List ℕ} {to e : ℕ} {pro
 
 -- ---- a plan
 -- a plan by its parts, as the code finds them
-pub plan-is : (h n : ℕ) (m : Bool) (top : ℕ) (g : G.Gathered) {rule rows columns : ℕ} {left right : R.Run} {fit well : Bool} {class : Class} → rule ≡ ruleAt h → left ≡ leftAt rule top g → right ≡ rightAt rule top g
+pub plan-is : (h n : ℕ) (m : Bool) (top : ℕ) (g : G.Gathered) {rule rows columns : ℕ} {left right : R.Run} {fit well : Bool} {class : Class} → rule ≡ ruleAt h → left ≡ leftAt rule top g
+    → right ≡ rightAt rule top g
     → rows ≡ sideSize (product rule) (left .len) (g .latest .left) → columns ≡ sideSize (product rule) (right .len) (g .latest .right) → fit ≡ fitted h n (g .first .class) (g .latest .class)
     → well ≡ (fit && (m && shortBoth (product rule) rows columns)) → class ≡ classBy (rule / 256 % 16) h (g .first .class) (g .latest .class)
     → _≡_ {A = P.Plan} (record { typed = well; sorted = record { class = class; left = rows; right = columns }; product = product rule; left = left; right = right }) (planOf h n m top g)
@@ -155,7 +164,8 @@ three true true s o = refl
 three true false s o = refl
 three false m s o = refl
 
-module _ (h n : ℕ) {top : ℕ} {g : G.Gathered} {st : List ℕ} (ready : Ready top g st) {m : Bool} (meets : m ≡ met (ruleAt h / 4096) (shapeAt st top (g .first)) (shapeAt st (g .at) (g .latest)) (g .alike)) where
+module _ (h n : ℕ) {top : ℕ} {g : G.Gathered} {st : List ℕ} (ready : Ready top g st) {m : Bool}
+    (meets : m ≡ met (ruleAt h / 4096) (shapeAt st top (g .first)) (shapeAt st (g .at) (g .latest)) (g .alike)) where
   abbrev rule : ℕ
   rule = ruleAt h
 
@@ -176,13 +186,15 @@ module _ (h n : ℕ) {top : ℕ} {g : G.Gathered} {st : List ℕ} (ready : Ready
 
   planned : childrenOf h n (shapeAt st top (g .first)) (shapeAt st (g .at) (g .latest)) (g .alike) ≡ given (plan .typed) (some (shape class lefts rights))
   unfolding childrenOf byLine shaped planOf
-  planned = rw (← meets, ← placed ready (rule / 16 % 16) .is, ← placed ready (rule % 16) .is, size-of (rule / 16 % 16) 3, size-of (rule % 16) 4) (three (fitted h n (g .first .class) (g .latest .class)) m _ _)
+  planned =
+      rw (← meets, ← placed ready (rule / 16 % 16) .is, ← placed ready (rule % 16) .is, size-of (rule / 16 % 16) 3, size-of (rule % 16) 4)
+      (three (fitted h n (g .first .class) (g .latest .class)) m _ _)
 
   module _ {p : P.Plan} (is : p ≡ planOf h n m top g) where
     pub rejects : p .typed ≡ false → Concludes h n top g st (record { typed = false; sorted = p .sorted }) st
     rejects e =
         let t : plan .typed ≡ false = sym (ap (λ (x : P.Plan). x .typed) is) ∙ e in
-        record { told = sym (planned ∙ rw t); small = λ y. absurd (let z : _≡_ {A = ℕ} 0 1 = cc in omega arith); kept = above-refl top st }
+        record { told = sym (planned ∙ rw t); small = λ y. not-both y refl; kept = above-refl top st }
 
     module _ (typed : p .typed ≡ true) where
       typed-plan : plan .typed ≡ true

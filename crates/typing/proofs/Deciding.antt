@@ -15,7 +15,7 @@ use Rattle.term.specs.Terms.{maxWords, maxDepth, allDeclared, termWords, isTerm
 use Rattle.term.specs.Trees.{depth}
 use Rattle.term.proofs.Scan.{part-length}
 use Rattle.term.proofs.TermTest.{term-in, term-end, term-names}
-use Rattle.declarations.specs.Declarations.{contextIn, namesIn, goodDeclarations, contextAt}
+use Rattle.declarations.specs.Declarations.{contextIn, namesIn, goodDeclarations}
 use Rattle.types.specs.Sorts.{Sort, Context}
 use Rattle.types.specs.Strays.{strayOf}
 use Rattle.types.specs.TypeOf.{typed, typeOf}
@@ -27,9 +27,9 @@ use Rattle.typing.specs.declared.terms.Typing as A
 use Rattle.typing.specs.Answers.{refuse, strayed, answerOf, typingOf}
 use Rattle.typebook.specs.Code.Shapes.{shapeOf}
 use Rattle.typing.specs.Code.Shapes.{shapeAt}
-use Rattle.typing.specs.Code.Chains.{budgetOf, aroundOf, Held}
+use Rattle.typing.specs.Code.Chains.{budgetOf, aroundOf}
 use Rattle.typing.specs.Code.Strays.{Told, Looked}
-use Rattle.typing.specs.Code.Verdicts.{Found, typingIn}
+use Rattle.typing.specs.Code.Verdicts.{need, Found, Typable, PartFound, typingIn}
 use Rattle.typing.proofs.Lying.{shape-kept, length-overlaid, bottom-kept}
 use Rattle.typing.proofs.Answering.{here, here-part, here-shallow, sort-none}
 use Rattle.typing.proofs.Binding.{held-none}
@@ -40,8 +40,11 @@ unfolding typingIn typingOf
 within ds ws n size good inside = rw (eq-eqb _ _ size, good, term-in (namesIn ds) ws n inside, length-take-le n ws inside)
 
 -- no sum is around a whole term
-pub found-top : (ds : List ℕ) {ws : List ℕ} {v : Answer.Verdict} {st st′ : List ℕ} → ((x : Held (getD ds 0 0) st 0 (aroundOf 64)) → Found (contextAt ds (x .trees)) ws (budgetOf 64) 0 v st st′)
-    → Found (contextIn ds) ws 64 0 v st st′
+pub typable-top : (ds ws st : List ℕ) → goodDeclarations ds ≡ true → length st ≤ 8320 → need (length ws) 64 ≤ length st → Typable ds ws st 0 (budgetOf 64) (aroundOf 64)
+unfolding budgetOf aroundOf
+typable-top ds ws st good long room = record { under = record { good = good; long = long; held = held-none _ _ }; room = omega arith; few = omega arith }
+
+pub found-top : (ds : List ℕ) {ws : List ℕ} {v : Answer.Verdict} {st st′ : List ℕ} → PartFound ds ws (budgetOf 64) 0 (aroundOf 64) v st st′ → Found (contextIn ds) ws 64 0 v st st′
 unfolding budgetOf aroundOf contextIn
 found-top ds {st = st} f = f (held-none (getD ds 0 0) st)
 

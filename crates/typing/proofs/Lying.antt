@@ -1,7 +1,7 @@
 -- Words on a stack: what stays and what changes when others are laid over it.
 use mathlib.Core.Path.{_≡_, refl, sym, _∙_, ap}
 use mathlib.Core.Logic.{_≢_}
-use mathlib.Core.Bool.{false, _&&_}
+use mathlib.Core.Bool.{Bool, true, false, _&&_}
 use mathlib.Core.List.{List, [], _∷_, _++_, append-assoc}
 use Prim.Native.Nat.{ℕ, zero, suc, _+_, _≤_, _<_}
 use native.Mathlib.Numerals.{add-one}
@@ -14,6 +14,11 @@ use Rattle.term.specs.declared.heads.Class.{Class}
 use Rattle.typing.specs.declared.sorts.Sorted as S
 use Rattle.typebook.specs.Code.Shapes.{shape}
 use Rattle.typing.specs.Code.Shapes.{run, shapeAt, Small, Room, Above}
+
+-- ---- tests
+-- what is both true and false
+pub not-both : {A : Type 0} {b : Bool} → b ≡ true → b ≡ false → A
+not-both y n = absurd (let z : _≡_ {A = ℕ} 0 1 = cc in omega arith)
 
 -- ---- runs
 -- as many words as are asked for, where there are
@@ -101,7 +106,8 @@ laid-both st to xs ys h =
     laid-in (laid st to xs) (to + length xs) ys (omega arith) ∙ rw (x, take-at (take to st ++ xs) rest (to + length xs) s, d, laid-in st to (xs ++ ys) (omega arith)) (simp append-assoc)
 
 -- what is laid down is there
-pub shape-laid : (c : Class) (st : List ℕ) (top : ℕ) (i j : List ℕ) → top + length (i ++ j) ≤ length st → shapeAt (laid st top (i ++ j)) top (record { class = c; left = length i; right = length j }) ≡ shape c i j
+pub shape-laid : (c : Class) (st : List ℕ) (top : ℕ) (i j : List ℕ) → top + length (i ++ j) ≤ length st
+    → shapeAt (laid st top (i ++ j)) top (record { class = c; left = length i; right = length j }) ≡ shape c i j
 shape-laid c st top i j h =
     let rest = drop (top + length (i ++ j)) st in
     let x : drop top (laid st top (i ++ j)) ≡ i ++ (j ++ rest) = laid-from st top (i ++ j) h ∙ append-assoc i j rest in

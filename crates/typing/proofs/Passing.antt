@@ -184,7 +184,8 @@ module _ {Γ : Context} {b : Bool} {ws : List ℕ} {budget top next k deepest : 
       })
 
 -- no part at all
-pub found-none : {Γ : Context} {ws : List ℕ} {budget top : ℕ} {st : List ℕ} {r : Answer.Verdict} → r ≡ refusal 0 → (0 < length (part ws 0) → partDepth ws 0 ≤ budget → ⊥) → Found Γ ws budget top r st st
+pub found-none : {Γ : Context} {ws : List ℕ} {budget top : ℕ} {st : List ℕ} {r : Answer.Verdict} → r ≡ refusal 0 → (0 < length (part ws 0) → partDepth ws 0 ≤ budget → ⊥)
+    → Found Γ ws budget top r st st
 found-none {r} is never =
     record {
       kept = record { long = refl; below = refl };
@@ -233,7 +234,9 @@ fail-at : (Γ : Context) (b : Bool) (l : Label) (cs f : Forest) (t : Tree) {kids
 unfolding typeOf
 fail-at Γ b l cs f t {j} binding are at s u =
     let z : 0 + 1 ≡ 1 = refl in
-    rw (are, z, later-is Γ l (cs ⧺ (t ▹ f)) binding, types-fail Γ (laterBy b Γ (cs ⧺ (t ▹ f))) cs 1 t (later-more b Γ cs (t ▹ f) s) f (1 + length (words* cs) + j) (rw (next-more b Γ cs (t ▹ f)) (untyped-at (nextAt b Γ cs) _ t j u)), at)
+    let all = cs ⧺ (t ▹ f) in
+    let fails = types-fail Γ (laterBy b Γ all) cs 1 t (later-more b Γ cs (t ▹ f) s) f (1 + length (words* cs) + j) (rw (next-more b Γ cs (t ▹ f)) (untyped-at (nextAt b Γ cs) _ t j u)) in
+    rw (are, z, later-is Γ l all binding, fails, at)
 
 module _ {Γ : Context} {b : Bool} {ws : List ℕ} {budget next k n deepest : ℕ} {list : List Sort} (p : Passed Γ b ws next k deepest list) (binding : b ≡ eqb (getD ws 0 0 / 256) 27)
     (wants : arityOf (getD ws 0 0) ≡ Children n) (less : k < n) (child : Answer.Verdict) (found : Unsettled (nextAt b Γ (p .children)) (drop next ws) (budget - 1) child) where

@@ -65,7 +65,11 @@ unfolding basisEntry basisIn
 basis-holds ds a h =
     let b = basis-entry ds a h in
     let t : Two ds (runOf (basisAt a + 1) (basisLen ds a)) (runOf 0 0) = (omega arith, omega arith, b .2, omega arith) in
-    record { two = t; small = (b .2, omega arith); is = λ top st r. rw (ap (λ (s : Shape). s .left) (both-there ds (runOf (basisAt a + 1) (basisLen ds a)) (runOf 0 0) t top st r), basis-good ds a h .same) }
+    record {
+      two = t;
+      small = (b .2, omega arith);
+      is = λ top st r. rw (ap (λ (s : Shape). s .left) (both-there ds (runOf (basisAt a + 1) (basisLen ds a)) (runOf 0 0) t top st r), basis-good ds a h .same);
+    }
 
 -- a variable, by its kind
 module _ (ds : List ℕ) (a : ℕ) (h : (goodDeclarations ds ≡ true) × (a < getD ds 2 0)) where
@@ -95,7 +99,8 @@ module _ (ds : List ℕ) (a : ℕ) (h : (goodDeclarations ds ≡ true) × (a < g
   shape-by (suc (suc zero)) e top st r =
       let z : top + 0 ≡ top = omega arith in
       rw (kind-2 ds a e, z, ap (λ (s : Shape). s .left) (both-there ds rowsAt columnsAt both top st r), variable-good ds a h .rows-good (λ z. omega arith) .same)
-  shape-by (suc (suc (suc zero))) e top st r = rw (kind-3 ds a e) (both-there ds rowsAt columnsAt both top st r ∙ rw (variable-good ds a h .rows-good (λ z. omega arith) .same, variable-good ds a h .columns-good e .same))
+  shape-by (suc (suc (suc zero))) e top st r =
+      rw (kind-3 ds a e) (both-there ds rowsAt columnsAt both top st r ∙ rw (variable-good ds a h .rows-good (λ z. omega arith) .same, variable-good ds a h .columns-good e .same))
   shape-by (suc (suc (suc (suc k)))) e top st r = absurd (omega (arith, variable-good ds a h .known))
 
   variable-holds : Holds ds (some (shapeOf (variableIn ds a))) (variableEntry ds a)
@@ -117,9 +122,11 @@ entry-holds ds bs w g n m = rw (ne-eqb (w / 256) 1 n, ne-eqb (w / 256) 28 m) (go
     go false c false e p q = bare-holds ds true
 
 -- ---- answers
-pub leaf-put : (ds : List ℕ) {o : Option Shape} {k : E.Entry} (e : E.Entry) {top : ℕ} {st st′ : List ℕ} → e ≡ k → Holds ds o k → Room top st → st′ ≡ laid st top (runAt ds (e .left) ++ runAt ds (e .right))
+pub leaf-put : (ds : List ℕ) {o : Option Shape} {k : E.Entry} (e : E.Entry) {top : ℕ} {st st′ : List ℕ} → e ≡ k → Holds ds o k → Room top st
+    → st′ ≡ laid st top (runAt ds (e .left) ++ runAt ds (e .right))
     → Answers o (record { typed = e .typed; sorted = e .sorted }) top st st′
-leaf-put ds {k = k} e {top} {st} is h r l = rw (l, is) (record { told = h .is top st r; small = λ y. h .small; kept = above-laid st top (runAt ds (k .left) ++ runAt ds (k .right)) (fits ds (k .left) (k .right) (h .two) top st r) })
+leaf-put ds {k = k} e {top} {st} is h r l =
+    rw (l, is) (record { told = h .is top st r; small = λ y. h .small; kept = above-laid st top (runAt ds (k .left) ++ runAt ds (k .right)) (fits ds (k .left) (k .right) (h .two) top st r) })
 
 -- one word
 pub word-put : (ds : List ℕ) (bs : List Tree) (w : ℕ) (st : List ℕ) (top : ℕ) → w / 256 ≡ 1 → Room top st
@@ -134,6 +141,7 @@ word-put ds bs w st top e h =
     })
 
 -- a bound basis: its sum stands for as many words as its record says
-pub bound-put : (ds : List ℕ) (bs : List Tree) (w : ℕ) {r : O.Outcome} {top : ℕ} {st st′ : List ℕ} → w / 256 ≡ 28 → Answers (boundShape (getD ds 0 0) (w % 256) bs) r top st st′ → Answers (leafOf ds bs w) r top st st′
+pub bound-put : (ds : List ℕ) (bs : List Tree) (w : ℕ) {r : O.Outcome} {top : ℕ} {st st′ : List ℕ} → w / 256 ≡ 28 → Answers (boundShape (getD ds 0 0) (w % 256) bs) r top st st′
+    → Answers (leafOf ds bs w) r top st st′
 unfolding leafOf
 bound-put ds bs w e a = rw (e) a

@@ -8,7 +8,7 @@ use Rattle.term.specs.Parts.{parse, treeIn}
 use Rattle.term.specs.Trees.{Tree, node, none, words}
 use Rattle.types.specs.Sorts.{scalar, ket, bra, operator, Context, _⊠_}
 use Rattle.types.specs.Strays.{strayOf}
-use Rattle.types.specs.TypeOf.{conclude, Typed, typed, untyped, typeOf}
+use Rattle.types.specs.TypeOf.{conclude, Inferred, typed, untyped, typeOf}
 
 -- "Declared: basis 0 and 1 of index 1:0; variables 0 ket, 1 operator, 2 scalar, 3 bra, all over 1:0"
 abbrev σ : Tree
@@ -17,7 +17,7 @@ abbrev σ : Tree
 abbrev Γ : Context
 Γ = record { types = 1; bases = σ ∷ σ ∷ []; variables = ket σ ∷ operator σ σ ∷ scalar ∷ bra σ ∷ []; bound = [] }
 
-abbrev typeIn : List ℕ → Typed
+abbrev typeIn : List ℕ → Inferred
 typeIn ws = typeOf Γ 0 (treeIn (parse ws))
 
 abbrev strayIn : List ℕ → Option ℕ

@@ -19,8 +19,8 @@ use Rattle.declarations.specs.Declarations.{contextIn, namesIn, goodDeclaration
 use Rattle.types.specs.Rules.{_⊢_∶_}
 use Rattle.types.specs.Sorts.{Sort, index, basis, scalar, ket, bra, operator, IsType}
 use Rattle.types.specs.Strays.{NoStray, strayOf}
-use Rattle.types.specs.TypeOf.{Typed, typed, untyped, typeOf}
-use Rattle.typing.specs.Statements.{Sound, Complete, StrayPlaces, Places, Decided}
+use Rattle.types.specs.TypeOf.{Inferred, typed, untyped, typeOf}
+use Rattle.typing.specs.Statements.{SoundEntry, Complete, StrayPlaces, Places, Decided}
 use Rattle.typing.proofs.Answering as W
 use Rattle.typing.proofs.Answering.{here, the-term, first-stray, stray-first, no-stray, stray-none, sort-none}
 use Rattle.types.proofs.Complete.{complete}
@@ -44,7 +44,7 @@ unfolding strayed refuse
 unstrayed nothing a e = e
 unstrayed (some k) a e = absurd (omega arith)
 
-accepted-sort : (n d : ℕ) (T : Typed) → answerOf n d T .code ≡ 0 → (S : Sort) × (T ≡ typed S) × IsType S
+accepted-sort : (n d : ℕ) (T : Inferred) → answerOf n d T .code ≡ 0 → (S : Sort) × (T ≡ typed S) × IsType S
 unfolding answerOf refuse
 accepted-sort n d (untyped k) e = absurd (omega arith)
 accepted-sort n d (typed (index σ)) e = absurd (omega arith)
@@ -92,7 +92,7 @@ module _ (ds ws : List ℕ) (n : ℕ) where
       )
 
 -- ---- sound: what is accepted is a term, and of that type by the rules
-pub sound-entry : Sound
+pub sound-entry : SoundEntry
 sound-entry ds ws n e = sound-by ds ws n _ _ _ refl refl refl e
 
 -- ---- a term with a stray part is refused with code 13 at the first, and one without a sort with code 10 at the place that document 01 fixes
@@ -109,7 +109,7 @@ place-entry ds ws n t size good inside is term none′ h =
 
 -- ---- every answer, with what it says
 module _ (ds ws : List ℕ) (n : ℕ) where
-  term-by : (t : Tree) → HeldTerm ds ws n t → NoStray (contextIn ds) t → (T : Typed) → typeOf (contextIn ds) 0 t ≡ T → Verdict ds ws n (answerOf n (depth t) T)
+  term-by : (t : Tree) → HeldTerm ds ws n t → NoStray (contextIn ds) t → (T : Inferred) → typeOf (contextIn ds) 0 t ≡ T → Verdict ds ws n (answerOf n (depth t) T)
   unfolding answerOf
   term-by t h none′ (untyped k) e =
       no-sort h none′ (λ s. let z = complete (well-formed ds (h .good)) (s .1) 0 in let x : _≡_ {A = ℕ} 0 1 = cc in omega arith) (first-untyped (well-formed ds (h .good)) t k e)

@@ -7,8 +7,9 @@ use Prim.Native.Nat.{ℕ, _+_, _-_, _*_, _/_, _%_, _≤_, _<_, max}
 use native.Mathlib.Omega.{arith}
 use borrow.Author.Tests.{eq-eqb, ne-eqb, eqb-true, leb-true, leb-false, le-ltb}
 use lib.Dec.{eqb}
-use lib.ListN.{length, drop, getD, length-append, length-drop}
+use lib.ListN.{length, take, drop, getD, length-append, length-drop}
 use Rattle.words.specs.Words.{laid}
+use Rattle.words.proofs.Runs.{to-end}
 use Rattle.term.specs.Heads.{Label, big-sum, heads, unread, labelled, reading, read, arityOf}
 use Rattle.term.specs.declared.heads.Arity.the-variants.{Children}
 use Rattle.term.specs.Trees.{Tree, Forest, none, _▹_, count, words, depth}
@@ -17,7 +18,7 @@ use Rattle.term.proofs.Scan.{read-children, part-length}
 use Rattle.types.specs.Sorts.{Sort, index, basis, scalar, ket, bra, operator, Context}
 use Rattle.types.specs.Inside.{binds}
 use Rattle.types.specs.TypeOf as T
-use Rattle.types.specs.TypeOf.{fails, conclude, Typed, typed, untyped, sorts, failed, join, typeOf, typesOf}
+use Rattle.types.specs.TypeOf.{fails, conclude, Inferred, typed, untyped, sorts, failed, join, typeOf, typesOf}
 use Rattle.types.proofs.Labels.{binds-word}
 use Rattle.types.proofs.Sound.{sound}
 use Rattle.typing.specs.declared.sorts.Gathered as G
@@ -25,15 +26,15 @@ use Rattle.typing.specs.declared.infer.Verdict as Answer
 use Rattle.typing.specs.declared.sorts.Outcome as O
 use Rattle.typing.specs.declared.sorts.Sorted as S
 use Rattle.typebook.specs.Code.Shapes.{Shape, shapeOf}
-use Rattle.typing.specs.Code.Shapes.{shapeAt, Small, Ready, Above, Answers}
+use Rattle.typing.specs.Code.Shapes.{shapeAt, Small, Room, Ready, Above, Answers}
 use Rattle.typebook.specs.Code.Lines.{concluded, alikeTo, allAlike, isSum}
 use Rattle.declarations.specs.Declarations.{goodDeclarations, contextIn, contextAt}
-use Rattle.typing.specs.Code.Chains.{Around, Held, indexLen, enters, recordAt, entered, enteredOn, ninth}
-use Rattle.typing.specs.Code.Verdicts.{refusal, settlement, leafOf, need, Settled, Found}
+use Rattle.typing.specs.Code.Chains.{Around, Held, indexLen, entersAt, recordAt, entered, enteredOn, Enterable, Entered, ninth}
+use Rattle.typing.specs.Code.Verdicts.{refusal, settlement, leafOf, Settled, Found, Typable, PartFound}
 use Rattle.typing.specs.Code.Conclude.{noneYet, gapOf, oneMore, Concludes}
 use Rattle.typebook.proofs.Rows.{lastOf, Roomy, children-law}
 use Rattle.typing.proofs.Leaves.{leaf-law}
-use Rattle.typing.proofs.Binding.{well-at, chained-kept, chained-up, chained-more}
+use Rattle.typing.proofs.Binding.{well-at, chain-low, chained-kept, chained-up, chained-more}
 use Rattle.typing.proofs.Lying.{above-refl, above-trans, above-lower, above-laid, shape-kept}
 use Rattle.typebook.proofs.OnShapes.{shapes}
 use Rattle.typing.proofs.Passing.{laterBy, nextAt, Passed, passed-more, passed-none, some-word, first-tree, part-is, depth-is, tree-is, settles, settles-none, found-child}
@@ -84,7 +85,7 @@ gap-few head = go (eqb head 27)
     go true = omega arith
     go false = omega arith
 
-pub gathers-free : {head top : ℕ} {ss : List Sort} {g : G.Gathered} {st : List ℕ} → Gathers head top ss g st → Free top g
+gathers-free : {head top : ℕ} {ss : List Sort} {g : G.Gathered} {st : List ℕ} → Gathers head top ss g st → Free top g
 gathers-free (begun a f s) = record { small = (omega arith, omega arith); from = omega arith; upTo = omega arith }
 gathers-free {head} (going k) = let s = k .small in let f = k .free in let p = gap-few head in record { small = s; from = omega arith; upTo = omega arith }
 
@@ -92,11 +93,21 @@ gathers-more : {head top k : ℕ} {ss : List Sort} {g r : G.Gathered} {child : S
     → Above (recordAt top (g .first)) st st′ → Small child → shapeAt st′ (g .free) child ≡ shapeOf T → r ≡ oneMore head k st′ top g child → Gathers head top (ss ++ (T ∷ [])) r st′
 unfolding allAlike oneMore
 gathers-more {head} {top} {child = child} {st′ = st′} T (begun al fr sm) n a small c t =
-    rw (t, eq-eqb _ _ (sym n)) (going {s = T} {ss = []} (record { small = small; latest-small = small; first = rw fr at c; latest = rw fr at c; alike = al ∙ sym (and-true (isSum head)); free = refl; at = omega arith }))
+    rw (t, eq-eqb _ _ (sym n)) (going {s = T} {ss = []}
+    (record { small = small; latest-small = small; first = rw fr at c; latest = rw fr at c; alike = al ∙ sym (and-true (isSum head)); free = refl; at = omega arith }))
 gathers-more {head} {top} {k = k} {child = child} {st′ = st′} T (going {s} {ss} {g} {st} h) n a small c t =
     let f = h .free in
     let first : shapeAt st′ top (g .first) ≡ shapeOf s = shape-kept (recordAt top (g .first)) st st′ (a .below) top (g .first) (omega arith) ∙ h .first in
-    rw (t, ne-eqb _ _ (λ (z : k ≡ 0). omega arith)) (going {s = s} {ss = ss ++ (T ∷ [])} (record { small = h .small; latest-small = small; first = first; latest = c ∙ ap shapeOf (sym (last-snoc s ss T)); alike = alike-more (isSum head) s ss T (h .alike) first c; free = f; at = omega arith }))
+    rw (t, ne-eqb _ _ (λ (z : k ≡ 0). omega arith)) (going {s = s} {ss = ss ++ (T ∷ [])}
+    (record {
+      small = h .small;
+      latest-small = small;
+      first = first;
+      latest = c ∙ ap shapeOf (sym (last-snoc s ss T));
+      alike = alike-more (isSum head) s ss T (h .alike) first c;
+      free = f;
+      at = omega arith;
+    }))
 
 -- ---- the loop over the children
 pub record Walked (Γ : Context) (ws : List ℕ) (budget top head next k deepest : ℕ) (g : G.Gathered) (st₀ st : List ℕ) : Type 0 where
@@ -114,13 +125,23 @@ pub walked-none : {Γ : Context} {ws : List ℕ} {budget top head n : ℕ} {g : 
     → g ≡ noneYet head top → Walked Γ ws budget top head 1 0 0 g st st
 walked-none {Γ} {ws} {top = top} {head = head} {st = st} wants h e =
     let s = some-word ws wants in
-    rw e (record { list = []; passed = passed-none Γ (eqb head 27) ws; long = refl; inside = omega arith; near = omega arith; two = λ z. absurd (z refl); shallow = h; kept = above-refl top st; gathers = begun {g = noneYet head top} refl refl (refl, refl) })
+    rw e (record {
+      list = [];
+      passed = passed-none Γ (eqb head 27) ws;
+      long = refl;
+      inside = omega arith;
+      near = omega arith;
+      two = λ z. absurd (z refl);
+      shallow = h;
+      kept = above-refl top st;
+      gathers = begun {g = noneYet head top} refl refl (refl, refl);
+    })
 
 -- ---- the bodies around the next child
 -- what is written for it stands behind the first child's words
-pub entered-above : {st st′ : List ℕ} (head k top : ℕ) (f : S.Sorted) (a : Around) → recordAt top f + 2 ≤ length st → st′ ≡ enteredOn head k top f a st → Above (recordAt top f) st st′
+entered-above : {st st′ : List ℕ} (head k top : ℕ) (f : S.Sorted) (a : Around) → recordAt top f + 2 ≤ length st → st′ ≡ enteredOn head k top f a st → Above (recordAt top f) st st′
 unfolding enteredOn
-entered-above {st} head k top f a fits e = rw e (go (enters head k))
+entered-above {st} head k top f a fits e = rw e (go (entersAt head k))
   where
     go : (b : Bool) → Above (recordAt top f) st (cond b (laid st (recordAt top f) (indexLen f ∷ a .inner ∷ [])) st)
     go true = above-laid st (recordAt top f) (indexLen f ∷ a .inner ∷ []) fits
@@ -135,7 +156,7 @@ first-sort : (Γ Δ : Context) (at : ℕ) (c : Tree) (cs : Forest) (s : Sort) (s
 unfolding typeOf join
 first-sort Γ Δ at c cs s ss e = go (typeOf Γ at c) (typesOf Δ Δ (at + length (words c)) cs) e
   where
-    go : (t : Typed) (r : T.Children) → join t r ≡ sorts (s ∷ ss) → t ≡ typed s
+    go : (t : Inferred) (r : T.Children) → join t r ≡ sorts (s ∷ ss) → t ≡ typed s
     go (untyped k) r e = absurd (let z : _≡_ {A = ℕ} 0 1 = cc in omega arith)
     go (typed q) (failed k) e = absurd (let z : _≡_ {A = ℕ} 0 1 = cc in omega arith)
     go (typed q) (sorts qs) e = cc
@@ -151,7 +172,8 @@ module _ (ds : List ℕ) (good : goodDeclarations ds ≡ true) {st₀ st : List 
   -- the sum itself, over its first child
   one-more : {head : ℕ} {g : G.Gathered} (cs : Forest) {list : List Sort} → Gathers head top list g st → eqb head 27 ≡ true → top + 128 ≤ length st → count cs ≢ 0 → length list ≡ count cs
       → typesOf Γ (laterBy true Γ cs) 1 cs ≡ sorts list
-      → Entering ds (nextAt true Γ cs) (laid st (recordAt top (g .first)) (indexLen (g .first) ∷ around .inner ∷ [])) (g .free) (record { bodies = around .bodies + 1; inner = recordAt top (g .first) })
+      → Entering ds (nextAt true Γ cs) (laid st (recordAt top (g .first)) (indexLen (g .first) ∷ around .inner ∷ [])) (g .free)
+      (record { bodies = around .bodies + 1; inner = recordAt top (g .first) })
   unfolding count gapOf nextAt contextIn
   one-more none k b room n l e = absurd (n refl)
   one-more (c ▹ cs) (begun al fr sm) b room n l e = absurd (omega arith)
@@ -165,7 +187,7 @@ module _ (ds : List ℕ) (good : goodDeclarations ds ≡ true) {st₀ st : List 
   entering-by : {head k : ℕ} {g : G.Gathered} (cs : Forest) {list : List Sort} → Gathers head top list g st → top + 128 ≤ length st → count cs ≡ k → length list ≡ k → (b : Bool) → eqb head 27 ≡ b
       → typesOf Γ (laterBy b Γ cs) 1 cs ≡ sorts list → {within : Around} {st′ : List ℕ} → within ≡ entered head k top (g .first) around → st′ ≡ enteredOn head k top (g .first) around st
       → Entering ds (nextAt b Γ cs) st′ (g .free) within
-  unfolding entered enteredOn enters nextAt laterBy count
+  unfolding entered enteredOn entersAt nextAt laterBy count
   entering-by none q room n l false e t p r = rw (p, r, e) (same-bodies (let f = gathers-free q .from in omega arith))
   entering-by (c ▹ cs) q room n l false e t p r = rw (p, r, e) (same-bodies (let f = gathers-free q .from in omega arith))
   entering-by {k = k} none q room n l true e t p r = let z : k ≡ 0 = sym n in rw (p, r, e, eq-eqb k 0 z) (same-bodies (let f = gathers-free q .from in omega arith))
@@ -174,17 +196,17 @@ module _ (ds : List ℕ) (good : goodDeclarations ds ≡ true) {st₀ st : List 
       rw (p, r, e, ne-eqb k 0 (λ z. m (n ∙ z))) (one-more (c ▹ cs) q e room m (l ∙ sym n) t)
 
 module _ {Γ : Context} {ws : List ℕ} {budget top head next k deepest : ℕ} {g : G.Gathered} {st₀ st : List ℕ} (w : Walked Γ ws budget top head next k deepest g st₀ st) where
-  pub free-at : Free top g
+  free-at : Free top g
   free-at = gathers-free (w .gathers)
 
-  abbrev pub nextOf : Context
+  abbrev nextOf : Context
   nextOf = nextAt (eqb head 27) Γ (w .passed .children)
 
   module _ {child : Answer.Verdict} {st′ : List ℕ} (s : Settled nextOf (drop next ws) (budget - 1) (g .free) child st′) where
-    pub child-inside : next + child .size ≤ length ws
+    child-inside : next + child .size ≤ length ws
     child-inside = let p = part-length (drop next ws) 0 in let z = s .size in let i = w .inside in let d = length-drop next ws in omega arith
 
-    pub walked-more : Above (recordAt top (g .first)) st st′ → {r : G.Gathered} → r ≡ oneMore head k st′ top g (child .sorted) → {d : ℕ} → d ≡ max deepest (child .depth)
+    walked-more : Above (recordAt top (g .first)) st st′ → {r : G.Gathered} → r ≡ oneMore head k st′ top g (child .sorted) → {d : ℕ} → d ≡ max deepest (child .depth)
         → Walked Γ ws budget top head (next + child .size) (k + 1) d r st₀ st′
     walked-more a t e =
         let c = first-tree (drop next ws) (s .whole) in
@@ -205,54 +227,119 @@ module _ {Γ : Context} {ws : List ℕ} {budget top head next k deepest : ℕ} {
           gathers = more;
         }
 
-  -- all of them: what the rule asks, and what it tells
-  pub ready : k ≢ 0 → top + 256 ≤ length st → length st ≤ 8320 → Ready top g st
-  ready z h u = go (w .gathers) (w .long)
-    where
-      go : {ss : List Sort} → Gathers head top ss g st → length ss ≡ k → Ready top g st
-      go (begun a f m) e = absurd (z (sym e))
-      go (going m) e = let f = free-at .upTo in let a = m .at in record { room = omega arith; more = omega arith; long = u; first = m .small; latest = m .latest-small }
-
 -- one more child, in its context
 entered-few : {within : Around} (head k top : ℕ) (f : S.Sorted) (a : Around) → within ≡ entered head k top f a → within .bodies ≤ a .bodies + 1
 unfolding entered
-entered-few head k top f a e = rw e (go (enters head k))
+entered-few head k top f a e = rw e (go (entersAt head k))
   where
     go : (b : Bool) → cond b (record { bodies = a .bodies + 1; inner = recordAt top f }) a .bodies ≤ a .bodies + 1
     go true = omega arith
     go false = omega arith
 
-module _ (ds : List ℕ) (good : goodDeclarations ds ≡ true) {ws : List ℕ} {budget top head next k deepest : ℕ} {g : G.Gathered} {st₀ st : List ℕ} {around : Around} (x : Held (getD ds 0 0) st₀ top around)
-    (w : Walked (contextAt ds (x .trees)) ws budget top head next k deepest g st₀ st) (room : top + need (length ws) budget ≤ length st₀) {within : Around} {st′ : List ℕ}
-    (p : within ≡ entered head k top (g .first) around) (q : st′ ≡ enteredOn head k top (g .first) around st) where
-  pub entering : Entering ds (nextOf w) st′ (g .free) within
-  entering = let l = w .kept .long in entering-by ds good x (w .kept) (w .passed .children) (w .gathers) (omega arith) (w .passed .number) (w .long) (eqb head 27) refl (w .passed .sorted) p q
+-- what holds in the loop, whatever the trees of the sums around are
+abbrev pub Walks : List ℕ → List ℕ → ℕ → ℕ → ℕ → ℕ → ℕ → ℕ → G.Gathered → Around → List ℕ → List ℕ → Type 0
+Walks ds ws budget top head next k deepest g a st₀ st = (x : Held (getD ds 0 0) st₀ top a) → Walked (contextAt ds (x .trees)) ws budget top head next k deepest g st₀ st
 
-  pub within-few : within .bodies ≤ around .bodies + 1
-  within-few = entered-few head k top (g .first) around p
+module _ {ds ws : List ℕ} {budget top head next k deepest : ℕ} {g : G.Gathered} {st₀ st : List ℕ} {around : Around} (pre : Typable ds ws st₀ top budget around)
+    (v : Walks ds ws budget top head next k deepest g around st₀ st) where
+  -- by the trees that are there
+  abbrev now-walked : Walked (contextAt ds (pre .under .held .trees)) ws budget top head next k deepest g st₀ st
+  now-walked = v (pre .under .held)
 
-  above : Above (recordAt top (g .first)) st st′
-  above = let l = w .kept .long in let s = free-at w .small in entered-above head k top (g .first) around (omega arith) q
+  pub enterable : Enterable st top budget (g .first) around
+  enterable =
+      let w = now-walked in
+      let l = w .kept .long in
+      let s = w .shallow in
+      record { room = omega arith; long = omega arith; small = free-at w .small; low = omega (arith, chain-low (pre .under .held .chain)); few = pre .few; some = omega arith }
 
-  pub within-long : length st′ ≡ length st₀
-  within-long = above .long ∙ w .kept .long
+  -- all of them: what the rule asks
+  pub ready : k ≢ 0 → Ready top g st
+  ready z = let w = now-walked in go (w .gathers) (w .long)
+    where
+      go : {ss : List Sort} → Gathers head top ss g st → length ss ≡ k → Ready top g st
+      go (begun a f m) e = absurd (z (sym e))
+      go (going m) e =
+          let w = now-walked in
+          let f = free-at w .upTo in
+          let a = m .at in
+          let l = w .kept .long in
+          let s = w .shallow in
+          let i = w .inside in
+          let two = w .two z in
+          record { room = omega arith; more = omega arith; long = omega arith; first = m .small; latest = m .latest-small }
 
-  module _ {child : Answer.Verdict} {st″ : List ℕ} (f : (y : Held (getD ds 0 0) st′ (g .free) within) → Found (contextAt ds (y .trees)) (drop next ws) (budget - 1) (g .free) child st′ st″) where
-    pub child-found : Found (nextOf w) (drop next ws) (budget - 1) (g .free) child st′ st″
-    child-found = let e = entering in rw (e .is) at (f (e .held))
+  module _ {within : Around} {left : ℕ} {st′ : List ℕ} (e : Entered head k top budget (g .first) around within left st st′) where
+    entering : (x : Held (getD ds 0 0) st₀ top around) → Entering ds (nextOf (v x)) st′ (g .free) within
+    entering x =
+        let w = v x in
+        let l = w .kept .long in
+        entering-by ds (pre .under .good) x (w .kept) (w .passed .children) (w .gathers) (omega arith) (w .passed .number) (w .long) (eqb head 27) refl (w .passed .sorted) (e .around-is) (e .stack-is)
 
-    pub child-long : length st″ ≡ length st₀
-    child-long = child-found .kept .long ∙ within-long
+    above : Above (recordAt top (g .first)) st st′
+    above =
+        let w = now-walked in
+        let l = w .kept .long in
+        let s = free-at w .small in
+        entered-above head k top (g .first) around (omega arith) (e .stack-is)
 
-    pub walked-on : child .typed ≡ true → {r : G.Gathered} → r ≡ oneMore head k st″ top g (child .sorted) → {d : ℕ} → d ≡ max deepest (child .depth)
-        → Walked (contextAt ds (x .trees)) ws budget top head (next + child .size) (k + 1) d r st₀ st″
-    walked-on y t e = walked-more w (child-found .settled y) (above-trans above (above-lower (free-at w .from) (child-found .kept))) t e
+    within-long : length st′ ≡ length st₀
+    within-long = above .long ∙ now-walked .kept .long
 
-    pub walked-fails : {m : ℕ} → head ≡ getD ws 0 0 / 256 → arityOf (getD ws 0 0) ≡ Children m → k < m → child .typed ≡ false → {r : Answer.Verdict} → r ≡ refusal (next + child .at)
-        → Found (contextAt ds (x .trees)) ws budget top r st₀ st″
-    walked-fails h wants less y is =
-        let u = free-at w .from in
-        found-child (w .passed) (ap (λ (k : ℕ). eqb k 27) h) wants less (w .inside) child (above-trans (w .kept) (above-lower (omega arith) above)) (omega arith) child-found y is
+    -- the words of the next child on
+    abbrev rest : List ℕ
+    rest = take (length ws - next) (drop next ws)
+
+    pub child-typable : Typable ds rest st′ (g .free) left within
+    child-typable =
+        let w = now-walked in
+        let f = free-at w .upTo in
+        let l = within-long in
+        let more = entered-few head k top (g .first) around (e .around-is) in
+        let near = w .near in
+        let i = w .inside in
+        let s = w .shallow in
+        let b = e .budget-is in
+        record {
+          under = record { good = pre .under .good; long = omega arith; held = entering (pre .under .held) .held };
+          room = rw (to-end ws next) (omega (arith, length-drop next ws));
+          few = omega arith;
+        }
+
+    module _ {child : Answer.Verdict} {st″ : List ℕ} (f : PartFound ds rest left (g .free) within child st′ st″) where
+      child-found : (x : Held (getD ds 0 0) st₀ top around) → Found (nextOf (v x)) (drop next ws) (budget - 1) (g .free) child st′ st″
+      child-found x = let y = entering x in rw (y .is, to-end ws next, e .budget-is) at (f (y .held))
+
+      pub child-at : next + child .at ≤ length ws
+      child-at = let w = now-walked in omega (arith, length-drop next ws, child-found (pre .under .held) .bound, w .inside)
+
+      pub child-long : length st″ ≡ length st₀
+      child-long = child-found (pre .under .held) .kept .long ∙ within-long
+
+      pub walked-fails : {m : ℕ} → head ≡ getD ws 0 0 / 256 → arityOf (getD ws 0 0) ≡ Children m → k < m → child .typed ≡ false → {r : Answer.Verdict} → r ≡ refusal (next + child .at)
+          → PartFound ds ws budget top around r st₀ st″
+      walked-fails h wants less y is x =
+          let w = v x in
+          let u = free-at w .from in
+          found-child (w .passed) (ap (λ (k : ℕ). eqb k 27) h) wants less (w .inside) child (above-trans (w .kept) (above-lower (omega arith) above)) (omega arith) (child-found x) y is
+
+      module _ (yes : child .typed ≡ true) where
+        pub child-end : next + child .size ≤ length ws
+        child-end = child-inside now-walked (child-found (pre .under .held) .settled yes)
+
+        pub gatherable : Room top st″ × Room (g .free) st″ × Small (g .first) × Small (child .sorted)
+        gatherable =
+            let w = now-walked in
+            let l = child-long in
+            let u = free-at w .upTo in
+            let near = w .near in
+            let i = w .inside in
+            let s = w .shallow in
+            (omega arith, omega arith, free-at w .small, child-found (pre .under .held) .settled yes .small)
+
+        pub walked-on : {r : G.Gathered} → r ≡ oneMore head k st″ top g (child .sorted) → {d : ℕ} → d ≡ max deepest (child .depth)
+            → Walks ds ws budget top head (next + child .size) (k + 1) d r around st₀ st″
+        walked-on t d x = walked-more (v x) (child-found x .settled yes) (above-trans above (above-lower (free-at (v x) .from) (child-found x .kept))) t d
 
 -- ---- the end
 all-by : (Γ : Context) (w : ℕ) {head top n : ℕ} (l : Label) {ss : List Sort} {g : G.Gathered} {st st′ : List ℕ} {o : O.Outcome} → Roomy Γ l → Gathers head top ss g st → length ss ≡ n → n ≢ 0
@@ -292,7 +379,8 @@ module _ {Γ : Context} {ws : List ℕ} {budget top head next k deepest n : ℕ}
   walked-ninth e is =
       let q = labelled-by (getD ws 0 0) head n wants h in
       let t = and-eq-true-iff _ _ .0 (sym test ∙ e) in
-      settles-none (w .passed) (w .shallow) (q .0) (q .1 ∙ ap (labelled (q .0)) (sym all)) (q .2) (some-word ws wants) (no-room Γ _ _ _ _ (q .1) (sym h ∙ eqb-true _ _ (t .0)) (rw around (leb-true _ _ (t .1)))) (w .kept) is
+      settles-none (w .passed) (w .shallow) (q .0) (q .1 ∙ ap (labelled (q .0)) (sym all)) (q .2) (some-word ws wants)
+      (no-room Γ _ _ _ _ (q .1) (sym h ∙ eqb-true _ _ (t .0)) (rw around (leb-true _ _ (t .1)))) (w .kept) is
 
   roomy : b ≡ false → (l : Label) → binds l ≡ eqb head 27 → Roomy Γ l
   unfolding ninth
@@ -301,7 +389,8 @@ module _ {Γ : Context} {ws : List ℕ} {budget top head next k deepest n : ℕ}
   pub walked-all : b ≡ false → n ≢ 0 → {st′ : List ℕ} {o : O.Outcome} → Concludes head n top g st o st′ → {r : Answer.Verdict} → r ≡ settlement next (deepest + 1) o → Found Γ ws budget top r st₀ st′
   walked-all e z c is =
       let q = labelled-by (getD ws 0 0) head n wants h in
-      let f = settles (w .passed) (w .shallow) (q .0) (q .1 ∙ ap (labelled (q .0)) (sym all)) (q .2) (some-word ws wants) (all-by Γ (getD ws 0 0) (q .0) (roomy e (q .0) (q .2)) (w .gathers) (w .long ∙ all) z h (q .1) c) is in
+      let f = settles (w .passed) (w .shallow) (q .0) (q .1 ∙ ap (labelled (q .0)) (sym all)) (q .2) (some-word ws wants)
+      (all-by Γ (getD ws 0 0) (q .0) (roomy e (q .0) (q .2)) (w .gathers) (w .long ∙ all) z h (q .1) c) is in
       record { kept = above-trans (w .kept) (f .kept); bound = f .bound; settled = f .settled; unsettled = f .unsettled }
 
 -- a head without children

@@ -21,7 +21,7 @@ use Rattle.types.specs.Rules.{_⊢_∶_}
 use Rattle.types.specs.First.{HasSort, FirstUntyped}
 use Rattle.types.specs.Strays.{FirstStray, NoStray, strayOf}
 use Rattle.types.specs.Sorts.{Sort, index, basis, scalar, ket, bra, operator, IsType}
-use Rattle.types.specs.TypeOf.{Typed, typed, untyped, typeOf}
+use Rattle.types.specs.TypeOf.{Inferred, typed, untyped, typeOf}
 
 -- a kind by its number, with the lengths that it carries
 abbrev pub sizesOf : K.Kind → Z.Sizes
@@ -49,7 +49,7 @@ unfolding typeRecord
 typing n d k rows columns = record { code = 0; side = 0; step = 0; at = 0; length = n; depth = d; of = typeRecord k rows columns }
 
 -- 01: "10 no type", "11 a side is an index or a basis"
-unfoldable pub answerOf : ℕ → ℕ → Typed → A.Typing
+unfoldable pub answerOf : ℕ → ℕ → Inferred → A.Typing
 unfolding refuse typing
 answerOf n d (untyped k) = refuse 10 k
 answerOf n d (typed (index σ)) = refuse 11 0

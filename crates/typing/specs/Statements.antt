@@ -14,8 +14,8 @@ use Rattle.declarations.specs.Declarations.{contextIn, namesIn, goodDeclaration
 use Rattle.typing.specs.Answers.{refuse, answerOf, typingOf, HeldTerm, TypedTerm, Verdict}
 
 -- what is accepted is a term, and has a type by the rules
-abbrev pub Sound : Type 0
-Sound = (ds ws : List ℕ) (n : ℕ) → typingOf ds ws n .code ≡ 0 → (t : Tree) × (S : Sort) × TypedTerm ds ws n t S
+abbrev pub SoundEntry : Type 0
+SoundEntry = (ds ws : List ℕ) (n : ℕ) → typingOf ds ws n .code ≡ 0 → (t : Tree) × (S : Sort) × TypedTerm ds ws n t S
 
 -- every such term is accepted, with its length, its depth and that type
 abbrev pub Complete : Type 0

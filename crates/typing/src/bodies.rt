@@ -10,7 +10,7 @@ ghost use Prim.Native.Nat.{ℕ, _+_, _-_, _≤_, _<_};
 ghost use lib.ListN.{length};
 ghost use Rattle.words.specs.Words.{laid};
 ghost use Rattle.typing.specs.Code.Shapes.{run, Small, Room, Answers};
-ghost use Rattle.typing.specs.Code.Chains.{budgetOf, aroundOf, indexLen, linkAt, entered, enteredOn, inReach, ninth, Held};
+ghost use Rattle.typing.specs.Code.Chains.{budgetOf, aroundOf, indexLen, linkAt, entersAt, Enterable, Entered, inReach, ninth, Held};
 ghost use Rattle.typing.specs.Code.Verdicts.{boundShape};
 
 // What a part is typed within is one number, since a struct would go through memory at each call: how much deeper the call may go, how many bodies there are around the part, and where
@@ -21,7 +21,7 @@ pub fn budget_of(within: usize) -> usize
     within % 128
 }
 
-fn bodies_of(within: usize) -> usize
+pub fn bodies_of(within: usize) -> usize
     ensures { λ r. ⌜ r ≡ aroundOf within .bodies ⌝ }
 {
     within / 128 % 128
@@ -44,6 +44,16 @@ fn index_len(s: Sorted) -> usize
     0
 }
 
+// Whether the next child of a head, behind `k` others, is in the body of a sum over a basis.
+pub fn enters(head: usize, k: usize) -> bool
+    ensures { λ r. ⌜ r ≡ entersAt head k ⌝ }
+{
+    if head != 27 {
+        return false;
+    }
+    k != 0
+}
+
 // What the next child of a head is typed within, behind `k` others: a sum over a basis holds what comes behind its first child, and has its record written.
 pub fn enter(
     head: usize,
@@ -53,13 +63,10 @@ pub fn enter(
     first: Sorted,
     within: usize,
 ) -> usize
-    requires { ⌜ (top + 128 ≤ length (now stack)) × (length (now stack) ≤ 8320) × Small first × (aroundOf within .inner ≤ 8320) × (aroundOf within .bodies + budgetOf within ≤ 64) × (0 < budgetOf within) ⌝ }
-    ensures { λ r. ⌜ (aroundOf r ≡ entered head k top first (aroundOf within)) × (budgetOf r ≡ budgetOf within - 1) × (now (stack .exit) ≡ enteredOn head k top first (aroundOf within) (now (stack .entry))) ⌝ }
+    requires { ⌜ Enterable (now stack) top (budgetOf within) first (aroundOf within) ⌝ }
+    ensures { λ r. ⌜ Entered head k top (budgetOf within) first (aroundOf within) (aroundOf r) (budgetOf r) (now (stack .entry)) (now (stack .exit)) ⌝ }
 {
-    if head != 27 {
-        return within - 1;
-    }
-    if k == 0 {
+    if !enters(head, k) {
         return within - 1;
     }
     let at = top + first.left + first.right;
@@ -130,11 +137,11 @@ pub fn put_bound(stack: &mut [u16], top: usize, within: usize, a: usize) -> Outc
 }
 
 // Whether a head is a sum over a basis in as many bodies as there may be.
-pub fn is_ninth(head: usize, within: usize) -> bool
-    ensures { λ r. ⌜ r ≡ ninth head (aroundOf within .bodies) ⌝ }
+pub fn is_ninth(head: usize, bodies: usize) -> bool
+    ensures { λ r. ⌜ r ≡ ninth head bodies ⌝ }
 {
     if head != 27 {
         return false;
     }
-    8 <= bodies_of(within)
+    8 <= bodies
 }

@@ -1,4 +1,5 @@
 // The sort of a part, or the place of the first untyped one.
+use crate::bodies::bodies_of;
 use crate::bodies::budget_of;
 use crate::bodies::enter;
 use crate::bodies::is_ninth;
@@ -16,13 +17,9 @@ use term::heads::arity_of;
 use term::parts::larger;
 use words::word_at;
 ghost use mathlib.Core.Path.{_≡_};
-ghost use mathlib.Core.Bool.{true};
-ghost use Prim.Native.Nat.{_+_, _≤_};
-ghost use lib.ListN.{length, getD};
-ghost use Rattle.declarations.specs.Declarations.{goodDeclarations, contextAt};
-ghost use Rattle.typing.specs.Code.Shapes.{Room, Answers};
-ghost use Rattle.typing.specs.Code.Chains.{budgetOf, aroundOf, Held};
-ghost use Rattle.typing.specs.Code.Verdicts.{refusal, settlement, leafOf, need, Found};
+ghost use Rattle.typing.specs.Code.Shapes.{Room};
+ghost use Rattle.typing.specs.Code.Chains.{budgetOf, aroundOf};
+ghost use Rattle.typing.specs.Code.Verdicts.{refusal, settlement, Under, Typable, LeafFound, PartFound};
 
 // What typing finds of a part: its number of words, its depth and its sort, or the offset of the first untyped part.
 pub struct Verdict {
@@ -64,8 +61,8 @@ fn settled(size: usize, depth: usize, outcome: Outcome) -> Verdict
 
 // What is found of a head without children, with such bodies around it. The declarations were tested.
 fn conclude_leaf(ds: &[u16], word: u16, stack: &mut [u16], top: usize, within: usize) -> Outcome
-    requires { ⌜ (goodDeclarations (now ds) ≡ true) × Room top (now stack) × (length (now stack) ≤ 8320) × Held (getD (now ds) 0 0) (now stack) top (aroundOf within) ⌝ }
-    ensures { λ r. ⌜ ((x : Held (getD (now (ds .entry)) 0 0) (now (stack .entry)) top (aroundOf within)) → Answers (leafOf (now (ds .entry)) (x .trees) word) r top (now (stack .entry)) (now (stack .exit))) ⌝ }
+    requires { ⌜ Under (now ds) (now stack) top (aroundOf within) × Room top (now stack) ⌝ }
+    ensures { λ r. ⌜ LeafFound (now (ds .entry)) word top (aroundOf within) r (now (stack .entry)) (now (stack .exit)) ⌝ }
 {
     if word / 256 == 28 {
         return put_bound(stack, top, within, (word % 256) as usize);
@@ -95,8 +92,8 @@ fn conclude_leaf(ds: &[u16], word: u16, stack: &mut [u16], top: usize, within: u
 // The sort of the whole part with which `ws` begins, with its words on the stack from `top` on; or the offset of its first untyped part. It calls itself no deeper than the
 // budget. A sum over a basis in eight bodies has no sort, and its children are typed all the same: the place of the first untyped part is that of every term.
 pub fn type_part(ds: &[u16], ws: &[u16], stack: &mut [u16], top: usize, within: usize) -> Verdict
-    requires { ⌜ (goodDeclarations (now ds) ≡ true) × (top + need (length (now ws)) (budgetOf within) ≤ length (now stack)) × (length (now stack) ≤ 8320) × (aroundOf within .bodies + budgetOf within ≤ 64) × Held (getD (now ds) 0 0) (now stack) top (aroundOf within) ⌝ }
-    ensures { λ r. ⌜ ((x : Held (getD (now (ds .entry)) 0 0) (now (stack .entry)) top (aroundOf within)) → Found (contextAt (now (ds .entry)) (x .trees)) (now (ws .entry)) (budgetOf within) top r (now (stack .entry)) (now (stack .exit))) ⌝ }
+    requires { ⌜ Typable (now ds) (now ws) (now stack) top (budgetOf within) (aroundOf within) ⌝ }
+    ensures { λ r. ⌜ PartFound (now (ds .entry)) (now (ws .entry)) (budgetOf within) top (aroundOf within) r (now (stack .entry)) (now (stack .exit)) ⌝ }
 {
     if budget_of(within) == 0 {
         return refused(0);
@@ -126,7 +123,7 @@ pub fn type_part(ds: &[u16], ws: &[u16], stack: &mut [u16], top: usize, within: 
         next += child.size;
         k += 1;
     }
-    if is_ninth(head, within) {
+    if is_ninth(head, bodies_of(within)) {
         return refused(0);
     }
     settled(next, deepest + 1, conclude(head, n, stack, top, g))

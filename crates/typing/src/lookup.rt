@@ -7,9 +7,9 @@ ghost use mathlib.Core.Path.{_≡_};
 ghost use mathlib.Core.Bool.{true};
 ghost use mathlib.Core.List.{_++_};
 ghost use Prim.Native.Nat.{_+_, _≤_, _<_};
-ghost use lib.ListN.{length, getD};
+ghost use lib.ListN.{length};
 ghost use Rattle.words.specs.Words.{laid};
-ghost use Rattle.declarations.specs.Declarations.{goodDeclarations};
+ghost use Rattle.declarations.specs.Declarations.{size, goodDeclarations};
 ghost use Rattle.typing.specs.Code.Shapes.{runAt, Inside, Room};
 ghost use Rattle.typing.specs.Code.Verdicts.{sortedBy, bareEntry, basisEntry, variableEntry, entryOf};
 
@@ -38,7 +38,7 @@ fn bare(typed: bool) -> Entry
 }
 
 fn basis_entry(ds: &[u16], a: usize) -> Entry
-    requires { ⌜ (goodDeclarations (now ds) ≡ true) × (a < getD (now ds) 1 0) ⌝ }
+    requires { ⌜ (length (now ds) ≡ size) × (a < 32) ⌝ }
     ensures { λ r. ⌜ r ≡ basisEntry (now (ds .entry)) a ⌝ }
 {
     let at = 3 + a * 64;
@@ -84,7 +84,7 @@ fn sorted_by(kind: u16, n: usize, m: usize) -> Sorted
 }
 
 fn variable_entry(ds: &[u16], a: usize) -> Entry
-    requires { ⌜ (goodDeclarations (now ds) ≡ true) × (a < getD (now ds) 2 0) ⌝ }
+    requires { ⌜ (length (now ds) ≡ size) × (a < 32) ⌝ }
     ensures { λ r. ⌜ r ≡ variableEntry (now (ds .entry)) a ⌝ }
 {
     let at = 2051 + a * 129;

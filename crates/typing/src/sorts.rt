@@ -4,7 +4,7 @@ use typebook::number;
 use words::append;
 use words::same;
 ghost use mathlib.Core.Path.{_≡_};
-ghost use Rattle.words.specs.Words.{sameWords, laid, Added};
+ghost use Rattle.words.specs.Words.{sameWords, Added};
 ghost use Rattle.typebook.specs.Code.Lines.{alikeTo};
 ghost use Rattle.typing.specs.Code.Shapes.{shapeAt, runAt, Inside, Small, Room};
 
@@ -51,7 +51,7 @@ pub struct Gathered {
 // Lays a run over `out` from `to` on, and answers its end.
 pub fn put_run(out: &mut [u16], to: usize, ws: &[u16], r: Run) -> usize
     requires { ⌜ Inside r (now ws) ⌝ }
-    ensures { λ e. ⌜ Added (now (out .entry)) to (runAt (now (ws .entry)) r) (now (out .exit)) e × (now (out .exit) ≡ laid (now (out .entry)) to (runAt (now (ws .entry)) r)) ⌝ }
+    ensures { λ e. ⌜ Added (now (out .entry)) to (runAt (now (ws .entry)) r) (now (out .exit)) e ⌝ }
 {
     let from = r.at;
     let end = from + r.len;

@@ -1,4 +1,6 @@
 // The place of code 13: a bound basis without its sum around it, or a sum over a basis in eight bodies.
+use crate::bodies::enters;
+use crate::bodies::is_ninth;
 use term::heads::Arity;
 use term::heads::arity_of;
 use words::word_at;
@@ -20,10 +22,7 @@ fn is_stray(word: u16, bodies: usize) -> bool
     if word / 256 == 28 {
         return bodies <= (word % 256) as usize;
     }
-    if word / 256 == 27 {
-        return 8 <= bodies;
-    }
-    false
+    is_ninth((word / 256) as usize, bodies)
 }
 
 // How many bodies are around a word's child, behind `k` others.
@@ -31,13 +30,10 @@ fn bodies_in(word: u16, k: usize, bodies: usize) -> usize
     requires { ⌜ bodies ≤ 64 ⌝ }
     ensures { λ r. ⌜ r ≡ bodiesIn word k bodies ⌝ }
 {
-    if word / 256 != 27 {
-        return bodies;
+    if enters((word / 256) as usize, k) {
+        return bodies + 1;
     }
-    if k == 0 {
-        return bodies;
-    }
-    bodies + 1
+    bodies
 }
 
 // Looks through the part that begins at `at`, with so many bodies around it. It calls itself no deeper than the budget.

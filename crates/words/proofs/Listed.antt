@@ -1,13 +1,16 @@
 -- Lists and tests by number: an item is found by its number, and a test passes where it passes for each.
-use mathlib.Core.Path.{_≡_, refl, ap}
-use mathlib.Core.Bool.{Bool, true, false, and-eq-true-iff, and-false}
+use mathlib.Core.Path.{_≡_, refl, sym, _∙_, ap}
+use mathlib.Core.Bool.{Bool, true, false, not, _&&_, and-assoc, and-eq-true-iff, and-false}
 use mathlib.Core.Logic.{_≢_}
 use mathlib.Core.List.{List, [], _∷_, _++_}
 use mathlib.Core.Option as O
 use Prim.Native.Nat.{ℕ, zero, suc, _+_, _≤_, _<_}
+use native.Mathlib.Numerals.{add-one}
 use native.Mathlib.Omega.{arith}
-use lib.ListN.{length, drop, getD, getElem?}
-use Rattle.words.specs.Listed.{upTo, allUpTo}
+use borrow.Author.Tests.{not-true, not-false}
+use lib.ListN.{length, drop, getD, getElem?, drop-of-length-le}
+use lib.Seq.{drop-cons}
+use Rattle.words.specs.Listed.{upTo, allUpTo, all}
 
 -- ---- items
 module _ {A : Type 0} where
@@ -80,6 +83,26 @@ unfolding allUpTo
 allUpTo-fails zero f a h e = absurd (omega arith)
 allUpTo-fails (suc n) f zero h e = rw e
 allUpTo-fails (suc n) f (suc a) h e = rw (allUpTo-fails n (λ k. f (suc k)) a (omega arith) e) (and-false (f 0))
+
+-- ---- a test of every word, one after the other: all pass where those from i on do, and b is the test of the next
+module _ (f : ℕ → Bool) (ws : List ℕ) (i : ℕ) (rest : all f ws ≡ all f (drop i ws)) where
+  pub all-more : i < length ws → {b : Bool} → b ≡ f (getD ws i 0) → not b ≡ false → all f ws ≡ all f (drop (i + 1) ws)
+  unfolding all
+  all-more h {b} e k = rest ∙ rw (add-one, drop-cons ws i 0 h, ← e, not-false b k)
+
+  pub all-fails : i < length ws → {b : Bool} → b ≡ f (getD ws i 0) → not b ≡ true → false ≡ all f ws
+  unfolding all
+  all-fails h {b} e k = sym (rest ∙ rw (drop-cons ws i 0 h, ← e, not-true b k))
+
+  pub all-end : length ws ≤ i → true ≡ all f ws
+  unfolding all
+  all-end h = sym (rest ∙ rw (drop-of-length-le ws h))
+
+-- two runs pass where both do
+pub all-++ : (f : ℕ → Bool) (vs ws : List ℕ) → all f (vs ++ ws) ≡ (all f vs && all f ws)
+unfolding all
+all-++ f [] ws = refl
+all-++ f (v ∷ vs) ws = rw (all-++ f vs ws) (sym (and-assoc (f v) (all f vs) (all f ws)))
 
 -- ---- a number that is none of 0 .. n − 1, as the last arm of a `match` is told it
 unfoldable pub Others : ℕ → ℕ → Type 0

@@ -216,7 +216,8 @@ unfolding overlaid
 laid-copied out at src ys n h k e =
     let l = length-drop at out in
     let z : length (drop at out) ≤ n = omega arith in
-    rw (laid-in out at src h, e, take-all n (drop at out) (omega arith), take-all (length (drop at out)) src (omega arith), drop-of-length-le (drop at out) z, append-nil, drop-drop (length src) at out)
+    let d = drop at out in
+    rw (laid-in out at src h, e, take-all n d (omega arith), take-all (length d) src (omega arith), drop-of-length-le d z, append-nil, drop-drop (length src) at out)
 
 -- a word in front of n others, which move up by one: nothing where no word is behind them
 module _ (ws : List ℕ) (at word n : ℕ) where

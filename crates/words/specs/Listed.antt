@@ -1,4 +1,4 @@
--- Lists and tests by number, what a function gives for 0 .. n − 1; and two that many speak of: a word that a list lacks, the first of two answers.
+-- Lists and tests by number, what a function gives for 0 .. n − 1; and what many speak of: a test of every word, a word that a list lacks, the first of two answers.
 use mathlib.Core.Bool.{Bool, true, not, _&&_}
 use mathlib.Core.List.{List, [], _∷_}
 use mathlib.Core.Option.{Option, some, none}
@@ -14,6 +14,11 @@ upTo (suc n) f = f 0 ∷ upTo n λ k. f (suc k)
 unfoldable pub allUpTo : ℕ → (ℕ → Bool) → Bool
 allUpTo zero f = true
 allUpTo (suc n) f = f 0 && allUpTo n λ k. f (suc k)
+
+-- a test that all items of a list pass
+unfoldable pub all : (ℕ → Bool) → List ℕ → Bool
+all f [] = true
+all f (w ∷ ws) = f w && all f ws
 
 -- a test that a number stands nowhere in a list
 unfoldable pub lacks : ℕ → List ℕ → Bool

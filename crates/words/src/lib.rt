@@ -135,7 +135,8 @@ pub fn append_word(out: &mut [u16], at: usize, word: u16) -> usize
 
 // The words of `ws` from `from` up to `to`, likewise; those that `ws` does not have are left out.
 pub fn append_run(out: &mut [u16], at: usize, ws: &[u16], from: usize, to: usize) -> usize
-    ensures { λ r. ⌜ (r ≡ min (at + length (take (to - from) (drop from (now (ws .entry))))) (length (now (out .entry)) + 1)) × (now (out .exit) ≡ laid (now (out .entry)) at (take (to - from) (drop from (now (ws .entry))))) ⌝ }
+    ensures { λ r. ⌜ r ≡ min (at + length (take (to - from) (drop from (now (ws .entry))))) (length (now (out .entry)) + 1) ⌝ }
+    ensures { λ _. ⌜ now (out .exit) ≡ laid (now (out .entry)) at (take (to - from) (drop from (now (ws .entry)))) ⌝ }
 {
     append(out, at, run(ws, from, to - lesser(from, to)))
 }

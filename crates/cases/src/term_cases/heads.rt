@@ -5,10 +5,10 @@ use crate::input::next_number;
 use crate::output::also;
 use crate::output::first;
 use term::heads::Arity;
-use term::heads::Class;
 use term::heads::arity_of;
 use term::heads::child_class;
 use term::heads::result_class;
+use typebook::number;
 
 // The number of children that a word wants; 256, which no n reaches, for an unknown head.
 fn children(word: usize) -> usize {
@@ -18,26 +18,12 @@ fn children(word: usize) -> usize {
     }
 }
 
-fn number_of(class: Class) -> usize {
-    match class {
-        Class::Nothing => 0,
-        Class::Index => 1,
-        Class::Basis => 2,
-        Class::Scalar => 3,
-        Class::Ket => 4,
-        Class::Bra => 5,
-        Class::Operator => 6,
-        Class::Array => 7,
-        Class::Term => 8,
-    }
-}
-
 fn result(head: usize) -> usize {
-    number_of(result_class(head))
+    number(result_class(head)) as usize
 }
 
 fn child(head: usize, i: usize) -> usize {
-    number_of(child_class(head, i))
+    number(child_class(head, i)) as usize
 }
 
 // The classes of the result and of the children 0, 1 and 2.

@@ -1,4 +1,5 @@
--- `cursor::is_at_end` meets its contract: a walk of its MIR, by hand. The struct is taken apart, and `is_end` is called on the slice and the number. All that the proof knows of `is_end` is that it meets its contract.
+-- `cursor::is_at_end` meets its contract: a walk of its MIR, by hand. The struct is taken apart, and `is_end` is called on the slice and the number. All that the proof knows of
+-- `is_end` is that it meets its contract.
 -- The struct is Copy: what it owns is had twice. One copy is kept whole for the exit, and of the other what bytes owns goes to `is_end`, beside the lifetime's token, which comes back.
 -- Assumes nothing.
 use mathlib.Core.Path.{refl}
@@ -72,7 +73,8 @@ module _ {M : Type 1} (𝓤 : URA M) (H : Heap 𝓤) (A : Atoms 𝓤) (W : Given
   exits : ent 𝓤 (⋆ 𝓤 H A (‵ (bool .own found (vbool found ∷ [])) ∷ Token κ q ∷ ‵ (Own κ d) ∷ [])) (Post (vbool found))
   exits =
       qed W (‵ (bool .own found (vbool found ∷ [])) ∷ Token κ q ∷ ‵ (Own κ d) ∷ []) ∵
-      suffices ! _ (ends-at 𝓤 H A is_at_end.ended stayed (is_at_end.clauses 𝓤 H A mem run) W (((κ, tt), (q, tt), tt, (d, tt), (mach ∷ [], tt)), tt) (vbool found) found (tt, tt) (tt, tt)) $ says ! refl $
+      suffices ! _ (ends-at 𝓤 H A is_at_end.ended stayed (is_at_end.clauses 𝓤 H A mem run) W (((κ, tt), (q, tt), tt, (d, tt), (mach ∷ [], tt)), tt) (vbool found) found (tt, tt) (tt, tt)) $
+      says ! refl $
       move ! (1 ∷ []) $ frame ! $ nothing ! $ move ! (2 ∷ 0 ∷ []) $ fjoin ! $ frame ! $ done !
 
   module _ (C : Calls 𝓤 H) (Λ : Loops 𝓤 H) (fm : FmC 𝓤 H (W .laws) C) (known : Triple 𝓤 (C #cursor·is-end) (IsEnd 𝓤 H A mem run)) where
@@ -85,7 +87,8 @@ module _ {M : Type 1} (𝓤 : URA M) (H : Heap 𝓤) (A : Atoms 𝓤) (W : Given
         assigns ! (of-opd ! (load ! (from ! (fld ! refl (stop !))) (look-in ! 4 (sub ! 1 refl (whole !))))) (from ! (stop !)) (init ! 0 refl (tt, wt .1 .1 .0)) $
         move ! (9 ∷ []) $ fsplit ! $ lends ! κ d $ move ! (2 ∷ []) $ number ! w64 (d .at) (wt .1 .1 .0 .fits) $ move ! (1 ∷ 0 ∷ []) $ fjoin ! $ move ! (10 ∷ 0 ∷ []) $ join ! $
         -- [what `is_end` is entered with; what the struct owns; _3; …; _2; …; _1; …; room for _0; …]
-        answers ! fm is_end.ended (is_end.clauses 𝓤 H A mem run) known to-end tt (id⊢ 𝓤 _) (id⊢ 𝓤 _) found (λ r o. id⊢ 𝓤 _) (vbool found) (bool-tells found) (and-then ! (load ! (from ! (stop !)) (look ! 4 refl)) (and-then ! (load ! (from ! (stop !)) (look ! 2 refl)) (no-more !))) (λ is.
+        answers ! fm is_end.ended (is_end.clauses 𝓤 H A mem run) known to-end tt (id⊢ 𝓤 _) (id⊢ 𝓤 _) found (λ r o. id⊢ 𝓤 _) (vbool found) (bool-tells found)
+        (and-then ! (load ! (from ! (stop !)) (look ! 4 refl)) (and-then ! (load ! (from ! (stop !)) (look ! 2 refl)) (no-more !))) (λ is.
         -- [the result; the token; what the struct owns; _3; …; _2; …; _1; …; room for _0; …]
         land ! (from ! (stop !)) (init ! 9 refl (bool-lawful 𝓤 H A W .typed found _ is .0)) $
         returns ! (look ! 9 refl) $ forget ! 3 refl $ forget ! 5 refl $ forget ! 7 refl $ forget ! 9 refl $
@@ -94,13 +97,15 @@ module _ {M : Type 1} (𝓤 : URA M) (H : Heap 𝓤) (A : Atoms 𝓤) (W : Given
 module _ {M : Type 1} (𝓤 : URA M) (H : Heap 𝓤) (A : Atoms 𝓤) (W : Given 𝓤 H A) (mem : Memory → SProp 𝓤) (run : Routine → Fun 𝓤) where
   is-at-end-walks : (C : Calls 𝓤 H) (Λ : Loops 𝓤 H) → FmC 𝓤 H (W .laws) C → Triple 𝓤 (C #cursor·is-end) (IsEnd 𝓤 H A mem run)
       → Walks 𝓤 H A is_at_end.ended stayed (WpFn 𝓤 H C Λ code.function) (is_at_end.clauses 𝓤 H A mem run)
-  is-at-end-walks C Λ fm known = walked 𝓤 H A is_at_end.ended stayed (is_at_end.clauses 𝓤 H A mem run) (WpFn 𝓤 H C Λ code.function) (λ κs. (LL.vals (D κs) (L κs), tt)) (λ κs. (LL.tells (D κs) (L κs), tt))
+  is-at-end-walks C Λ fm known = walked 𝓤 H A is_at_end.ended stayed (is_at_end.clauses 𝓤 H A mem run) (WpFn 𝓤 H C Λ code.function) (λ κs. (LL.vals (D κs) (L κs), tt))
+      (λ κs. (LL.tells (D κs) (L κs), tt))
       (λ κs qs bounds a g are. via 𝓤 _ (fst∗ 𝓤 _ (emp 𝓤)) (walk 𝓤 H A W mem run (κs .0) (qs .0) (a .0) C Λ fm known (LL.lawful (D κs) (L κs) 𝓤 H A W .typed (a .0) _ (are .0) .0)))
 
 is-at-end-meets : {M : Type 1} (𝓤 : URA M) (H : Heap 𝓤) (A : Atoms 𝓤) (W : Given 𝓤 H A) (mem : Memory → SProp 𝓤) (run : Routine → Fun 𝓤) (𝓣 : Tables 𝓤 H)
     → Triple 𝓤 (𝓣 .C #cursor·is-end) (IsEnd 𝓤 H A mem run)
     → Meets 𝓤 H A is_at_end.signature (WpFn 𝓤 H (𝓣 .C) (𝓣 .Λ) code.function) (is_at_end.spec 𝓤 H A mem run)
-is-at-end-meets 𝓤 H A W mem run 𝓣 known = walk-meets 𝓤 H A is_at_end.ended stayed W (goes-none 𝓤 H A W 1 B yes (λ κs x f. refl), tt) (is_at_end.clauses 𝓤 H A mem run) (WpFn 𝓤 H (𝓣 .C) (𝓣 .Λ) code.function) (WpFn-mono 𝓤 H (W .laws) 𝓣 code.function)
+is-at-end-meets 𝓤 H A W mem run 𝓣 known = walk-meets 𝓤 H A is_at_end.ended stayed W (goes-none 𝓤 H A W 1 B yes (λ κs x f. refl), tt) (is_at_end.clauses 𝓤 H A mem run)
+    (WpFn 𝓤 H (𝓣 .C) (𝓣 .Λ) code.function) (WpFn-mono 𝓤 H (W .laws) 𝓣 code.function)
     (is-at-end-walks 𝓤 H A W mem run (𝓣 .C) (𝓣 .Λ) (fmOf 𝓤 H (W .laws) 𝓣) known)
 
 pub is-at-end-spec : {M : Type 1} → stated.statement M

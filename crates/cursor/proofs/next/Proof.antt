@@ -1,4 +1,5 @@
--- `cursor::next` meets its contract: a walk of its MIR, by hand. The struct is taken apart, `piece_end` is called on its slice and its number, and `past_end` on the slice and what that returned. A `Reader` is made of the slice and
+-- `cursor::next` meets its contract: a walk of its MIR, by hand. The struct is taken apart, `piece_end` is called on its slice and its number, and `past_end` on the slice and what that
+-- returned. A `Reader` is made of the slice and
 -- the second result, and a `Piece` of the first result and that `Reader`. All that the proof knows of `piece_end`, which is of another crate, and of `past_end` is that each meets its contract.
 -- The struct is Copy: what it owns is kept whole, and gives what its slice owns to each call and to the `Reader` made. The lifetime's token goes to each call, and comes back.
 -- Assumes nothing.
@@ -91,48 +92,59 @@ module _ {M : Type 1} (𝓤 : URA M) (H : Heap 𝓤) (A : Atoms 𝓤) (W : Given
   exits : p .end < 2 ^ 64 → p .rest .at < 2 ^ 64 → ent 𝓤 (⋆ 𝓤 H A (Token κ q ∷ ‵ (Own κ d) ∷ [])) (Post (P′.lowered p))
   exits end-fits at-fits =
       qed W (Token κ q ∷ ‵ (Own κ d) ∷ []) ∵
-      suffices ! _ (ends-at 𝓤 H A next.ended stayed (next.clauses 𝓤 H A mem run) W (((κ, tt), (q, tt), tt, (d, (b, tt)), passed), tt) (P′.lowered p) p (tt, (tt, tt)) (tt, (tt, tt))) $ says ! refl $ frame ! $
+      suffices ! _ (ends-at 𝓤 H A next.ended stayed (next.clauses 𝓤 H A mem run) W (((κ, tt), (q, tt), tt, (d, (b, tt)), passed), tt) (P′.lowered p) p (tt, (tt, tt)) (tt, (tt, tt))) $
+      says ! refl $ frame ! $
       lends ! κ d $ nothing ! $ number ! w8 b b-fits $ move ! (2 ∷ 0 ∷ []) $ fjoin ! $ frame ! $
       -- [what bytes owns]: of it the inner struct is made, and of what that owns and of end's facts the outer
       makes ! κ (p .rest) at-fits $ nothing ! $ move ! (1 ∷ 0 ∷ []) $ fjoin ! $ number ! w64 (p .end) end-fits $
       by ! (own-shut 𝓤 H A W (P.the-type (namedLft 1 0 tt (κ, tt))) (P′.the-laws (namedLft 1 0 tt (κ, tt))) (p .end, (p .rest, tt)))
 
-  module _ (C : Calls 𝓤 H) (Λ : Loops 𝓤 H) (fm : FmC 𝓤 H (W .laws) C) (known-end : Triple 𝓤 (C #text·pieces·piece-end) (PieceEnd 𝓤 H A mem run)) (known-past : Triple 𝓤 (C #cursor·past-end) (PastEnd 𝓤 H A mem run)) where
+  module _ (C : Calls 𝓤 H) (Λ : Loops 𝓤 H) (fm : FmC 𝓤 H (W .laws) C) (known-end : Triple 𝓤 (C #text·pieces·piece-end) (PieceEnd 𝓤 H A mem run))
+      (known-past : Triple 𝓤 (C #cursor·past-end) (PastEnd 𝓤 H A mem run)) where
     walk : Holds (hasTy (T′.mir (named 0)) mach) × WT mach → ent 𝓤 (onEntry 𝓤 H A next.signature (κ, tt) (q, tt) (d, (b, tt)) passed) (WpFn 𝓤 H C Λ code.function (mach ∷ vint w8 b ∷ []) Post)
     walk wt =
         qed W (Token κ q ∷ ‵ (owns (B (κ, tt) ∷ u8 ∷ []) (d, (b, tt)) passed) ∷ []) ∵ enter ! C Λ code.function (mach ∷ vint w8 b ∷ []) _ $
-        alloc1 ! (λ l₀. alloc1 ! (λ l₁. alloc1 ! (λ l₂. alloc1 ! (λ l₃. alloc1 ! (λ l₄. alloc1 ! (λ l₅. alloc1 ! (λ l₆. alloc1 ! (λ l₇. alloc0 ! $ params1 ! $ pass1 ! (init ! 12 refl wt) $ pass1 ! (init ! 10 refl (tt, record { fits = b-fits })) $ pass0 ! $
+        alloc1 ! (λ l₀. alloc1 ! (λ l₁. alloc1 ! (λ l₂. alloc1 ! (λ l₃. alloc1 ! (λ l₄. alloc1 ! (λ l₅. alloc1 ! (λ l₆. alloc1 ! (λ l₇. alloc0 ! $
+        params1 ! $ pass1 ! (init ! 12 refl wt) $ pass1 ! (init ! 10 refl (tt, record { fits = b-fits })) $ pass0 ! $
         -- [room for _7; …; _6; …; _5; …; _4; …; _3; …; _2; …; _1; …; room for _0; …; the token; what r and b own]
         assigns ! (of-opd ! (load ! (from ! (fld ! refl (stop !))) (look-in ! 12 (sub ! 0 refl (whole !))))) (from ! (stop !)) (init ! 8 refl (tt, wt .1 .0)) $
         assigns ! (of-opd ! (load ! (from ! (fld ! refl (stop !))) (look-in ! 12 (sub ! 1 refl (whole !))))) (from ! (stop !)) (init ! 2 refl (tt, wt .1 .1 .0)) $
         move ! (17 ∷ []) $ fsplit ! $ move ! (1 ∷ []) $ drop ! $
         -- [what r owns; room for _7; …; the token]
         lends ! κ d $ nothing ! $ number ! w8 b b-fits $ number ! w64 (d .at) (wt .1 .1 .0 .fits) $ move ! (1 ∷ 0 ∷ []) $ fjoin ! $ move ! (18 ∷ 0 ∷ []) $ join ! $
-        answers ! fm piece-end.ended (piece-end.clauses 𝓤 H A mem run) known-end to-end tt (id⊢ 𝓤 _) (id⊢ 𝓤 _) (p .end) (λ r o. id⊢ 𝓤 _) (vint w64 (p .end)) (uint-tells w64 (p .end)) (and-then ! (load ! (from ! (stop !)) (look ! 10 refl)) (and-then ! (load ! (from ! (stop !)) (look ! 4 refl)) (and-then ! (load ! (from ! (stop !)) (look ! 12 refl)) (no-more !)))) (λ is.
+        answers ! fm piece-end.ended (piece-end.clauses 𝓤 H A mem run) known-end to-end tt (id⊢ 𝓤 _) (id⊢ 𝓤 _) (p .end) (λ r o. id⊢ 𝓤 _) (vint w64 (p .end)) (uint-tells w64 (p .end))
+        (and-then ! (load ! (from ! (stop !)) (look ! 10 refl)) (and-then ! (load ! (from ! (stop !)) (look ! 4 refl)) (and-then ! (load ! (from ! (stop !)) (look ! 12 refl)) (no-more !)))) (λ is.
         -- [the result; the token; what r owns; room for _7; …]
         land ! (from ! (stop !)) (init ! 9 refl (tt, record { fits = is .1 })) $ drop ! $ move ! (1 ∷ []) $
         -- [what r owns; the token; room for _7; …]
         lends ! κ d $ nothing ! $ number ! w64 (p .end) (is .1) $ move ! (1 ∷ 0 ∷ []) $ fjoin ! $ move ! (2 ∷ 0 ∷ []) $ join ! $
-        answers ! fm past-end.ended (past-end.clauses 𝓤 H A mem run) known-past to-past tt (id⊢ 𝓤 _) (id⊢ 𝓤 _) (p .rest .at) (λ r o. id⊢ 𝓤 _) (vint w64 (p .rest .at)) (uint-tells w64 (p .rest .at)) (and-then ! (load ! (from ! (stop !)) (look ! 10 refl)) (and-then ! (load ! (from ! (stop !)) (look ! 8 refl)) (no-more !))) (λ is′.
+        answers ! fm past-end.ended (past-end.clauses 𝓤 H A mem run) known-past to-past tt (id⊢ 𝓤 _) (id⊢ 𝓤 _) (p .rest .at) (λ r o. id⊢ 𝓤 _) (vint w64 (p .rest .at))
+        (uint-tells w64 (p .rest .at)) (and-then ! (load ! (from ! (stop !)) (look ! 10 refl)) (and-then ! (load ! (from ! (stop !)) (look ! 8 refl)) (no-more !))) (λ is′.
         -- [the result; the token; what r owns; room for _7; …]
         land ! (from ! (stop !)) (init ! 7 refl (tt, record { fits = is′ .1 })) $ drop ! $
         -- [the token; what r owns; room for _7; …; _6; …; _5; …; _4; …; _3; …; _2; …; _1; …; room for _0; …]
-        assigns ! (agg ! (and-then ! (load ! (from ! (stop !)) (look ! 10 refl)) (and-then ! (load ! (from ! (stop !)) (look ! 6 refl)) (no-more !)))) (from ! (stop !)) (init ! 2 refl (tt, (wt .1 .0, (record { fits = is′ .1 }, tt)))) $
-        assigns ! (agg ! (and-then ! (load ! (from ! (stop !)) (look ! 8 refl)) (and-then ! (load ! (from ! (stop !)) (look ! 2 refl)) (no-more !)))) (from ! (stop !)) (init ! 16 refl (tt, (record { fits = is .1 }, ((wt .1 .0, (record { fits = is′ .1 }, tt)), tt)))) $
+        assigns ! (agg ! (and-then ! (load ! (from ! (stop !)) (look ! 10 refl)) (and-then ! (load ! (from ! (stop !)) (look ! 6 refl)) (no-more !)))) (from ! (stop !))
+        (init ! 2 refl (tt, (wt .1 .0, (record { fits = is′ .1 }, tt)))) $
+        assigns ! (agg ! (and-then ! (load ! (from ! (stop !)) (look ! 8 refl)) (and-then ! (load ! (from ! (stop !)) (look ! 2 refl)) (no-more !)))) (from ! (stop !))
+        (init ! 16 refl (tt, (record { fits = is .1 }, ((wt .1 .0, (record { fits = is′ .1 }, tt)), tt)))) $
         returns ! (look ! 16 refl) $ forget ! 2 refl $ forget ! 4 refl $ forget ! 6 refl $ forget ! 8 refl $ forget ! 10 refl $ forget ! 12 refl $ forget ! 14 refl $ forget ! 16 refl $
-        move ! (16 ∷ 17 ∷ []) $ free1 ! $ move ! (14 ∷ 15 ∷ []) $ free1 ! $ move ! (12 ∷ 13 ∷ []) $ free1 ! $ move ! (10 ∷ 11 ∷ []) $ free1 ! $ move ! (8 ∷ 9 ∷ []) $ free1 ! $ move ! (6 ∷ 7 ∷ []) $ free1 ! $ move ! (4 ∷ 5 ∷ []) $ free1 ! $ move ! (2 ∷ 3 ∷ []) $ free1 ! $ free0 ! $
+        move ! (16 ∷ 17 ∷ []) $ free1 ! $ move ! (14 ∷ 15 ∷ []) $ free1 ! $ move ! (12 ∷ 13 ∷ []) $ free1 ! $ move ! (10 ∷ 11 ∷ []) $ free1 ! $ move ! (8 ∷ 9 ∷ []) $ free1 ! $
+        move ! (6 ∷ 7 ∷ []) $ free1 ! $ move ! (4 ∷ 5 ∷ []) $ free1 ! $ move ! (2 ∷ 3 ∷ []) $ free1 ! $ free0 ! $
         by ! (exits (is .1) (is′ .1))))))))))))
 
 module _ {M : Type 1} (𝓤 : URA M) (H : Heap 𝓤) (A : Atoms 𝓤) (W : Given 𝓤 H A) (mem : Memory → SProp 𝓤) (run : Routine → Fun 𝓤) where
   next-walks : (C : Calls 𝓤 H) (Λ : Loops 𝓤 H) → FmC 𝓤 H (W .laws) C → Triple 𝓤 (C #text·pieces·piece-end) (PieceEnd 𝓤 H A mem run) → Triple 𝓤 (C #cursor·past-end) (PastEnd 𝓤 H A mem run)
       → Walks 𝓤 H A next.ended stayed (WpFn 𝓤 H C Λ code.function) (next.clauses 𝓤 H A mem run)
-  next-walks C Λ fm known-end known-past = walked 𝓤 H A next.ended stayed (next.clauses 𝓤 H A mem run) (WpFn 𝓤 H C Λ code.function) (λ κs. (LL.vals (D κs) (L κs), (uint-vals w8, tt))) (λ κs. (LL.tells (D κs) (L κs), (uint-tells w8, tt)))
-      (λ κs qs bounds a g are. via 𝓤 _ (fst∗ 𝓤 _ (emp 𝓤)) (walk 𝓤 H A W mem run (κs .0) (qs .0) (a .0) (a .1 .0) (are .1 .0 .1) C Λ fm known-end known-past (LL.lawful (D κs) (L κs) 𝓤 H A W .typed (a .0) _ (are .0) .0)))
+  next-walks C Λ fm known-end known-past = walked 𝓤 H A next.ended stayed (next.clauses 𝓤 H A mem run) (WpFn 𝓤 H C Λ code.function) (λ κs. (LL.vals (D κs) (L κs), (uint-vals w8, tt)))
+      (λ κs. (LL.tells (D κs) (L κs), (uint-tells w8, tt)))
+      (λ κs qs bounds a g are. via 𝓤 _ (fst∗ 𝓤 _ (emp 𝓤)) (walk 𝓤 H A W mem run (κs .0) (qs .0) (a .0) (a .1 .0) (are .1 .0 .1) C Λ fm known-end known-past
+      (LL.lawful (D κs) (L κs) 𝓤 H A W .typed (a .0) _ (are .0) .0)))
 
 next-meets : {M : Type 1} (𝓤 : URA M) (H : Heap 𝓤) (A : Atoms 𝓤) (W : Given 𝓤 H A) (mem : Memory → SProp 𝓤) (run : Routine → Fun 𝓤) (𝓣 : Tables 𝓤 H)
     → Triple 𝓤 (𝓣 .C #text·pieces·piece-end) (PieceEnd 𝓤 H A mem run) → Triple 𝓤 (𝓣 .C #cursor·past-end) (PastEnd 𝓤 H A mem run)
     → Meets 𝓤 H A next.signature (WpFn 𝓤 H (𝓣 .C) (𝓣 .Λ) code.function) (next.spec 𝓤 H A mem run)
-next-meets 𝓤 H A W mem run 𝓣 known-end known-past = walk-meets 𝓤 H A next.ended stayed W (goes-none 𝓤 H A W 1 B yes (λ κs x f. refl), (goes-none 𝓤 H A W 1 (λ _. u8) yes (λ κs x f. refl), tt)) (next.clauses 𝓤 H A mem run) (WpFn 𝓤 H (𝓣 .C) (𝓣 .Λ) code.function) (WpFn-mono 𝓤 H (W .laws) 𝓣 code.function)
+next-meets 𝓤 H A W mem run 𝓣 known-end known-past = walk-meets 𝓤 H A next.ended stayed W (goes-none 𝓤 H A W 1 B yes (λ κs x f. refl), (goes-none 𝓤 H A W 1 (λ _. u8) yes (λ κs x f. refl), tt))
+    (next.clauses 𝓤 H A mem run) (WpFn 𝓤 H (𝓣 .C) (𝓣 .Λ) code.function) (WpFn-mono 𝓤 H (W .laws) 𝓣 code.function)
     (next-walks 𝓤 H A W mem run (𝓣 .C) (𝓣 .Λ) (fmOf 𝓤 H (W .laws) 𝓣) known-end known-past)
 
 pub next-spec : {M : Type 1} → stated.statement M

@@ -9,12 +9,9 @@ returns : tie.Need-returns
 unfolding past
 returns c = rw (lt-leb _ _ (c .if1 .taken))
 
-add-result : tie.Need-add-result
-add-result c = search needs
-
 returns-2 : tie.Need-returns-2
 unfolding past
 returns-2 c = rw (le-leb _ _ (c .if1 .left))
 
 pub past-end-spec : {M : Type 1} → statement M
-past-end-spec = tie.close (tie.spec returns add-result returns-2)
+past-end-spec = tie.close (tie.spec returns (search needs) returns-2)

@@ -1,5 +1,7 @@
--- `cursor::piece_at` meets its contract: a walk of its MIR, by hand. A `Reader` that `reader_at` returns is passed to `next`, the `Reader` inside the `Piece` that this returns to `is_at_end`, and the answers are put into a `Span`. All that the proof knows of the three is that each meets its contract.
--- Each contract says its result as a whole record, so each result is known, and its machine value with it: `answers` lands that, and a number inside the struct inside the `Piece` is read like any other. A `Span` owns facts alone, and is made of them at the exit.
+-- `cursor::piece_at` meets its contract: a walk of its MIR, by hand. A `Reader` that `reader_at` returns is passed to `next`, the `Reader` inside the `Piece` that this returns to
+-- `is_at_end`, and the answers are put into a `Span`. All that the proof knows of the three is that each meets its contract.
+-- Each contract says its result as a whole record, so each result is known, and its machine value with it: `answers` lands that, and a number inside the struct inside the `Piece` is
+-- read like any other. A `Span` owns facts alone, and is made of them at the exit.
 -- In a local of a body MIR erases the lifetime of a struct's type: a value is shown to have the type at `erased`.
 -- Assumes nothing.
 use mathlib.Core.Path.{_≡_, refl}
@@ -81,7 +83,8 @@ module _ {M : Type 1} (𝓤 : URA M) (H : Heap 𝓤) (A : Atoms 𝓤) (mem : Mem
   abbrev IsAtEnd : Contract 𝓤
   IsAtEnd = tripleOf 𝓤 H A is_at_end.signature (is_at_end.spec 𝓤 H A mem run)
 
-module _ {M : Type 1} (𝓤 : URA M) (H : Heap 𝓤) (A : Atoms 𝓤) (W : Given 𝓤 H A) (mem : Memory → SProp 𝓤) (run : Routine → Fun 𝓤) (κ : Lft) (q : Share) (s : RefT (List ℕ)) (n b : ℕ) (n-fits : n < 2 ^ 64) (b-fits : b < 2 ^ 8) where
+module _ {M : Type 1} (𝓤 : URA M) (H : Heap 𝓤) (A : Atoms 𝓤) (W : Given 𝓤 H A) (mem : Memory → SProp 𝓤) (run : Routine → Fun 𝓤) (κ : Lft) (q : Share) (s : RefT (List ℕ)) (n b : ℕ)
+    (n-fits : n < 2 ^ 64) (b-fits : b < 2 ^ 8) where
   -- the lifetime as the signatures have it, and as a local of a body has it
   abbrev α : NamedLft
   α = namedLft 1 0 tt (κ, tt)
@@ -122,53 +125,70 @@ module _ {M : Type 1} (𝓤 : URA M) (H : Heap 𝓤) (A : Atoms 𝓤) (W : Given
   exits : WT (P′.lowered p) → ent 𝓤 (⋆ 𝓤 H A (Token κ q ∷ ‵ (OwnSlice κ s) ∷ [])) (Post (S′.lowered span))
   exits wt =
       qed W (Token κ q ∷ ‵ (OwnSlice κ s) ∷ []) ∵
-      suffices ! _ (ends-at 𝓤 H A piece_at.ended stayed (piece_at.clauses 𝓤 H A mem run) W (((κ, tt), (q, tt), tt, (s, (n, (b, tt))), at), tt) (S′.lowered span) span (tt, (tt, (tt, tt))) (tt, (tt, (tt, tt)))) $ says ! refl $ frame ! $
+      suffices ! _ (ends-at 𝓤 H A piece_at.ended stayed (piece_at.clauses 𝓤 H A mem run) W (((κ, tt), (q, tt), tt, (s, (n, (b, tt))), at), tt) (S′.lowered span) span (tt, (tt, (tt, tt)))
+      (tt, (tt, (tt, tt)))) $ says ! refl $ frame ! $
       nothing ! $ number ! w8 b b-fits $ number ! w64 n n-fits $ move ! (1 ∷ 0 ∷ []) $ fjoin ! $ frame ! $
       owned ! S.the-row (Is S.the-row) (LL.makes S.the-type S′.the-plain 𝓤 H A) span _ (LL.owes S.the-type S′.the-laws span ((refl, wt .0 .fits), ((refl, wt .1 .0 .1 .0 .fits), (refl, tt)))) $ done !
 
-  module _ (C : Calls 𝓤 H) (Λ : Loops 𝓤 H) (fm : FmC 𝓤 H (W .laws) C) (known-reader : Triple 𝓤 (C #cursor·reader-at) (ReaderAt 𝓤 H A mem run)) (known-next : Triple 𝓤 (C #cursor·next) (Next 𝓤 H A mem run)) (known-end : Triple 𝓤 (C #cursor·is-at-end) (IsAtEnd 𝓤 H A mem run)) where
-    walk : Is (ShrSlice (named 0) κ u8) s (slice s ∷ []) → ent 𝓤 (onEntry 𝓤 H A piece_at.signature (κ, tt) (q, tt) (s, (n, (b, tt))) at) (WpFn 𝓤 H C Λ code.function (slice s ∷ vint w64 n ∷ vint w8 b ∷ []) Post)
+  module _ (C : Calls 𝓤 H) (Λ : Loops 𝓤 H) (fm : FmC 𝓤 H (W .laws) C) (known-reader : Triple 𝓤 (C #cursor·reader-at) (ReaderAt 𝓤 H A mem run))
+      (known-next : Triple 𝓤 (C #cursor·next) (Next 𝓤 H A mem run)) (known-end : Triple 𝓤 (C #cursor·is-at-end) (IsAtEnd 𝓤 H A mem run)) where
+    walk : Is (ShrSlice (named 0) κ u8) s (slice s ∷ []) → ent 𝓤 (onEntry 𝓤 H A piece_at.signature (κ, tt) (q, tt) (s, (n, (b, tt))) at)
+        (WpFn 𝓤 H C Λ code.function (slice s ∷ vint w64 n ∷ vint w8 b ∷ []) Post)
     walk is =
         qed W (Token κ q ∷ ‵ (owns (ShrSlice (named 0) κ u8 ∷ usize ∷ u8 ∷ []) (s, (n, (b, tt))) at) ∷ []) ∵ enter ! C Λ code.function (slice s ∷ vint w64 n ∷ vint w8 b ∷ []) _ $
         alloc1 ! (λ l₀. alloc1 ! (λ l₁. alloc1 ! (λ l₂. alloc1 ! (λ l₃. alloc1 ! (λ l₄. alloc1 ! (λ l₅. alloc1 ! (λ l₆. alloc1 ! (λ l₇. alloc1 ! (λ l₈. alloc1 ! (λ l₉. alloc0 ! $ params1 ! $
-        pass1 ! (init ! 16 refl (shr-slice-lawful 𝓤 H A W (named 0) κ u8 .typed s (slice s ∷ []) is .0)) $ pass1 ! (init ! 14 refl (tt, record { fits = n-fits })) $ pass1 ! (init ! 12 refl (tt, record { fits = b-fits })) $ pass0 ! $
+        pass1 ! (init ! 16 refl (shr-slice-lawful 𝓤 H A W (named 0) κ u8 .typed s (slice s ∷ []) is .0)) $ pass1 ! (init ! 14 refl (tt, record { fits = n-fits })) $
+        pass1 ! (init ! 12 refl (tt, record { fits = b-fits })) $ pass0 ! $
         -- [room for _9; …; down to room for _4; …; _3; …; _2; …; _1; …; room for _0; …; the token; what was passed owns]
         move ! (21 ∷ []) $ fsplit ! $ use1 W (‵ (OwnSlice κ s) ⊛ ‵ (OwnSlice κ s)) (shr-slice-copy 𝓤 H A W (named 0) κ u8 .twice s (slice s ∷ [])) $ split ! $ move ! (2 ∷ []) $ drop ! $
         -- [what bytes owns; the same; room for _9; …; the token]
         nothing ! $ number ! w64 n n-fits $ move ! (1 ∷ 0 ∷ []) $ fjoin ! $ move ! (22 ∷ 0 ∷ []) $ join ! $
-        answers ! fm reader_at.ended (reader_at.clauses 𝓤 H A mem run) known-reader to-reader tt (id⊢ 𝓤 _) (id⊢ 𝓤 _) r₀ (λ r o. id⊢ 𝓤 _) (T′.lowered r₀) (LL.tells (D (κ, tt)) (L (κ, tt)) r₀) (and-then ! (load ! (from ! (stop !)) (look ! 18 refl)) (and-then ! (load ! (from ! (stop !)) (look ! 16 refl)) (no-more !))) (λ is₀.
+        answers ! fm reader_at.ended (reader_at.clauses 𝓤 H A mem run) known-reader to-reader tt (id⊢ 𝓤 _) (id⊢ 𝓤 _) r₀ (λ r o. id⊢ 𝓤 _) (T′.lowered r₀) (LL.tells (D (κ, tt)) (L (κ, tt)) r₀)
+        (and-then ! (load ! (from ! (stop !)) (look ! 18 refl)) (and-then ! (load ! (from ! (stop !)) (look ! 16 refl)) (no-more !))) (λ is₀.
         -- [what the `Reader` owns; the token; what bytes owns; room for _9; …]
         land ! (from ! (stop !)) (init ! 11 refl (LL.lawful (T.the-type αᵉ) (T′.the-laws αᵉ) 𝓤 H A W .typed r₀ _ is₀ .0)) $
         nothing ! $ number ! w8 b b-fits $ move ! (1 ∷ 0 ∷ []) $ fjoin ! $ move ! (1 ∷ 0 ∷ []) $ join ! $
-        answers ! fm next.ended (next.clauses 𝓤 H A mem run) known-next to-next tt (id⊢ 𝓤 _) (id⊢ 𝓤 _) p (λ r o. id⊢ 𝓤 _) (P′.lowered p) (LL.tells (P.the-type α) (P′.the-laws α) p) (and-then ! (load ! (from ! (stop !)) (look ! 10 refl)) (and-then ! (load ! (from ! (stop !)) (look ! 14 refl)) (no-more !))) (λ is₁.
+        answers ! fm next.ended (next.clauses 𝓤 H A mem run) known-next to-next tt (id⊢ 𝓤 _) (id⊢ 𝓤 _) p (λ r o. id⊢ 𝓤 _) (P′.lowered p) (LL.tells (P.the-type α) (P′.the-laws α) p)
+        (and-then ! (load ! (from ! (stop !)) (look ! 10 refl)) (and-then ! (load ! (from ! (stop !)) (look ! 14 refl)) (no-more !))) (λ is₁.
         -- [what the `Piece` owns; the token; what bytes owns; room for _9; …]
         land ! (from ! (stop !)) (init ! 13 refl (typed is₁)) $
         assigns ! (of-opd ! (load ! (from ! (fld ! refl (stop !))) (look-in ! 13 (sub ! 0 refl (whole !))))) (from ! (stop !)) (init ! 9 refl (tt, typed is₁ .1 .0)) $
-        assigns ! (of-opd ! (load ! (from ! (fld ! refl (fld ! refl (stop !)))) (look-in ! 13 (sub ! 1 refl (sub ! 1 refl (whole !)))))) (from ! (stop !)) (init ! 7 refl (tt, typed is₁ .1 .1 .0 .1 .0)) $
+        assigns ! (of-opd ! (load ! (from ! (fld ! refl (fld ! refl (stop !)))) (look-in ! 13 (sub ! 1 refl (sub ! 1 refl (whole !)))))) (from ! (stop !))
+        (init ! 7 refl (tt, typed is₁ .1 .1 .0 .1 .0)) $
         assigns ! (of-opd ! (load ! (from ! (fld ! refl (stop !))) (look-in ! 13 (sub ! 1 refl (whole !))))) (from ! (stop !)) (init ! 3 refl (tt, typed is₁ .1 .1 .0)) $
-        use1 W (given (P′.lowered p ∷ [] ≡ P′.lowered p ∷ []) (‵ (all-own (P.the-type α .parts) (P′.the-laws α) (p .end, (p .rest, tt))))) (own-open 𝓤 H A W (P.the-type α) (P′.the-laws α) (p .end, (p .rest, tt)) (P′.lowered p)) $ learn ! (λ _. fsplit ! $ drop ! $
+        use1 W (given (P′.lowered p ∷ [] ≡ P′.lowered p ∷ []) (‵ (all-own (P.the-type α .parts) (P′.the-laws α) (p .end, (p .rest, tt)))))
+        (own-open 𝓤 H A W (P.the-type α) (P′.the-laws α) (p .end, (p .rest, tt)) (P′.lowered p)) $ learn ! (λ _. fsplit ! $ drop ! $
         -- [what the `Reader` inside it owns; the token; what bytes owns; _9; …]
         move ! (1 ∷ 0 ∷ []) $ join ! $
-        answers ! fm is_at_end.ended (is_at_end.clauses 𝓤 H A mem run) known-end to-end tt (id⊢ 𝓤 _) (id⊢ 𝓤 _) (span .last) (λ r o. id⊢ 𝓤 _) (vbool (span .last)) (bool-tells (span .last)) (and-then ! (load ! (from ! (stop !)) (look ! 2 refl)) (no-more !)) (λ is₂. drop ! $
+        answers ! fm is_at_end.ended (is_at_end.clauses 𝓤 H A mem run) known-end to-end tt (id⊢ 𝓤 _) (id⊢ 𝓤 _) (span .last) (λ r o. id⊢ 𝓤 _) (vbool (span .last)) (bool-tells (span .last))
+        (and-then ! (load ! (from ! (stop !)) (look ! 2 refl)) (no-more !)) (λ is₂. drop ! $
         -- [the token; what bytes owns; _9; …; room for _8; …; _7; …; _6; …; _5; …; _4; …; _3; …; _2; …; _1; …; room for _0; …]
         land ! (from ! (stop !)) (init ! 4 refl (bool-lawful 𝓤 H A W .typed (span .last) _ is₂ .0)) $
-        assigns ! (agg ! (and-then ! (load ! (from ! (stop !)) (look ! 8 refl)) (and-then ! (load ! (from ! (stop !)) (look ! 6 refl)) (and-then ! (load ! (from ! (stop !)) (look ! 4 refl)) (no-more !))))) (from ! (stop !)) (init ! 20 refl (tt, (typed is₁ .1 .0, (typed is₁ .1 .1 .0 .1 .0, (tt, tt))))) $
-        returns ! (look ! 20 refl) $ forget ! 2 refl $ forget ! 4 refl $ forget ! 6 refl $ forget ! 8 refl $ forget ! 10 refl $ forget ! 12 refl $ forget ! 14 refl $ forget ! 16 refl $ forget ! 18 refl $ forget ! 20 refl $
-        move ! (20 ∷ 21 ∷ []) $ free1 ! $ move ! (18 ∷ 19 ∷ []) $ free1 ! $ move ! (16 ∷ 17 ∷ []) $ free1 ! $ move ! (14 ∷ 15 ∷ []) $ free1 ! $ move ! (12 ∷ 13 ∷ []) $ free1 ! $ move ! (10 ∷ 11 ∷ []) $ free1 ! $ move ! (8 ∷ 9 ∷ []) $ free1 ! $ move ! (6 ∷ 7 ∷ []) $ free1 ! $ move ! (4 ∷ 5 ∷ []) $ free1 ! $ move ! (2 ∷ 3 ∷ []) $ free1 ! $ free0 ! $
+        assigns ! (agg ! (and-then ! (load ! (from ! (stop !)) (look ! 8 refl)) (and-then ! (load ! (from ! (stop !)) (look ! 6 refl))
+        (and-then ! (load ! (from ! (stop !)) (look ! 4 refl)) (no-more !))))) (from ! (stop !)) (init ! 20 refl (tt, (typed is₁ .1 .0, (typed is₁ .1 .1 .0 .1 .0, (tt, tt))))) $
+        returns ! (look ! 20 refl) $ forget ! 2 refl $ forget ! 4 refl $ forget ! 6 refl $ forget ! 8 refl $ forget ! 10 refl $ forget ! 12 refl $ forget ! 14 refl $ forget ! 16 refl $
+        forget ! 18 refl $ forget ! 20 refl $
+        move ! (20 ∷ 21 ∷ []) $ free1 ! $ move ! (18 ∷ 19 ∷ []) $ free1 ! $ move ! (16 ∷ 17 ∷ []) $ free1 ! $ move ! (14 ∷ 15 ∷ []) $ free1 ! $ move ! (12 ∷ 13 ∷ []) $ free1 ! $
+        move ! (10 ∷ 11 ∷ []) $ free1 ! $ move ! (8 ∷ 9 ∷ []) $ free1 ! $ move ! (6 ∷ 7 ∷ []) $ free1 ! $ move ! (4 ∷ 5 ∷ []) $ free1 ! $ move ! (2 ∷ 3 ∷ []) $ free1 ! $ free0 ! $
         by ! (exits (typed is₁ .1))))))))))))))))
 
 module _ {M : Type 1} (𝓤 : URA M) (H : Heap 𝓤) (A : Atoms 𝓤) (W : Given 𝓤 H A) (mem : Memory → SProp 𝓤) (run : Routine → Fun 𝓤) where
-  piece-at-walks : (C : Calls 𝓤 H) (Λ : Loops 𝓤 H) → FmC 𝓤 H (W .laws) C → Triple 𝓤 (C #cursor·reader-at) (ReaderAt 𝓤 H A mem run) → Triple 𝓤 (C #cursor·next) (Next 𝓤 H A mem run) → Triple 𝓤 (C #cursor·is-at-end) (IsAtEnd 𝓤 H A mem run)
+  piece-at-walks : (C : Calls 𝓤 H) (Λ : Loops 𝓤 H) → FmC 𝓤 H (W .laws) C → Triple 𝓤 (C #cursor·reader-at) (ReaderAt 𝓤 H A mem run) → Triple 𝓤 (C #cursor·next) (Next 𝓤 H A mem run)
+      → Triple 𝓤 (C #cursor·is-at-end) (IsAtEnd 𝓤 H A mem run)
       → Walks 𝓤 H A piece_at.ended stayed (WpFn 𝓤 H C Λ code.function) (piece_at.clauses 𝓤 H A mem run)
   piece-at-walks C Λ fm known-reader known-next known-end = walked 𝓤 H A piece_at.ended stayed (piece_at.clauses 𝓤 H A mem run) (WpFn 𝓤 H C Λ code.function)
       (λ κs. (slice-vals, (uint-vals w64, (uint-vals w8, tt)))) (λ κs. (shr-slice-tells (named 0) (κs .0) u8, (uint-tells w64, (uint-tells w8, tt))))
-      (λ κs qs bounds a g are. via 𝓤 _ (fst∗ 𝓤 _ (emp 𝓤)) (walk 𝓤 H A W mem run (κs .0) (qs .0) (a .0) (a .1 .0) (a .1 .1 .0) (are .1 .0 .1) (are .1 .1 .0 .1) C Λ fm known-reader known-next known-end (are .0)))
+      (λ κs qs bounds a g are. via 𝓤 _ (fst∗ 𝓤 _ (emp 𝓤)) (walk 𝓤 H A W mem run (κs .0) (qs .0) (a .0) (a .1 .0) (a .1 .1 .0) (are .1 .0 .1) (are .1 .1 .0 .1) C Λ fm known-reader known-next
+      known-end (are .0)))
 
 piece-at-meets : {M : Type 1} (𝓤 : URA M) (H : Heap 𝓤) (A : Atoms 𝓤) (W : Given 𝓤 H A) (mem : Memory → SProp 𝓤) (run : Routine → Fun 𝓤) (𝓣 : Tables 𝓤 H)
     → Triple 𝓤 (𝓣 .C #cursor·reader-at) (ReaderAt 𝓤 H A mem run) → Triple 𝓤 (𝓣 .C #cursor·next) (Next 𝓤 H A mem run) → Triple 𝓤 (𝓣 .C #cursor·is-at-end) (IsAtEnd 𝓤 H A mem run)
     → Meets 𝓤 H A piece_at.signature (WpFn 𝓤 H (𝓣 .C) (𝓣 .Λ) code.function) (piece_at.spec 𝓤 H A mem run)
 piece-at-meets 𝓤 H A W mem run 𝓣 known-reader known-next known-end =
-    walk-meets 𝓤 H A piece_at.ended stayed W (goes-none-slice 𝓤 H A W 1 (0 ∷ []) tt (plain (λ _. u8)) yes, (goes-none 𝓤 H A W 1 (λ _. usize) yes (λ κs x f. refl), (goes-none 𝓤 H A W 1 (λ _. u8) yes (λ κs x f. refl), tt))) (piece_at.clauses 𝓤 H A mem run)
+    walk-meets 𝓤 H A piece_at.ended stayed W (
+      goes-none-slice 𝓤 H A W 1 (0 ∷ []) tt (plain (λ _. u8)) yes,
+      (goes-none 𝓤 H A W 1 (λ _. usize) yes (λ κs x f. refl), (goes-none 𝓤 H A W 1 (λ _. u8) yes (λ κs x f. refl), tt)),
+    ) (piece_at.clauses 𝓤 H A mem run)
     (WpFn 𝓤 H (𝓣 .C) (𝓣 .Λ) code.function) (WpFn-mono 𝓤 H (W .laws) 𝓣 code.function) (piece-at-walks 𝓤 H A W mem run (𝓣 .C) (𝓣 .Λ) (fmOf 𝓤 H (W .laws) 𝓣) known-reader known-next known-end)
 
 pub piece-at-spec : {M : Type 1} → stated.statement M

@@ -6,7 +6,7 @@ use native.Mathlib.Omega.{arith}
 use borrow.Author.Count.{below-none, below-more}
 use borrow.Author.Tests.{not-true, not-false}
 use borrow.Author.Needs.{needs}
-use Rattle.declarations.specs.Declarations.{goodEntry}
+use Rattle.declarations.specs.Code.Entries.{goodEntry}
 use Rattle.words.proofs.Listed.{allUpTo-all, allUpTo-fails}
 use Rattle.declarations.proofs.entries_are_good.Statement.{statement}
 use Rattle.declarations.proofs.entries_are_good.Tie as tie
@@ -17,31 +17,16 @@ Inv-loop ds k n a₀ a = (a ≤ n) × ((b : ℕ) → b < a → goodEntry ds k b 
 abbrev μ-loop : tie.MeasureT-loop
 μ-loop ds k n a₀ a = n - a
 
-mul-n : tie.Need-mul-n Inv-loop μ-loop
-mul-n c = search needs
-
-shared-slice-read-n : tie.Need-shared-slice-read-n Inv-loop μ-loop
-shared-slice-read-n c = search needs
-
 cast-n : tie.Need-cast-n Inv-loop μ-loop
 cast-n c = omega (arith, c .shared-slice-known2 .given (c .before .before .args .k))
 
 loop-holds : tie.Need-loop-holds Inv-loop μ-loop
 loop-holds c = (omega arith, below-none _)
 
-entry-is-good-requires : tie.Need-entry-is-good-requires Inv-loop μ-loop
-entry-is-good-requires c κs = search needs
-
 returns : tie.Need-returns Inv-loop μ-loop
 returns c =
     let a = c .before .before .before .loop .a in
     sym (allUpTo-fails _ _ a (omega arith) (sym (c .before .entry-is-good .ensures) ∙ not-true _ (c .if1 .taken)))
-
-add-a : tie.Need-add-a Inv-loop μ-loop
-add-a c = search needs
-
-loop-less : tie.Need-loop-less Inv-loop μ-loop
-loop-less c = search needs
 
 loop-again : tie.Need-loop-again Inv-loop μ-loop
 loop-again c = (omega arith, below-more _ _ (c .before .before .before .loop .inv .1) (sym (c .before .entry-is-good .ensures) ∙ not-false _ (c .if1 .left)))
@@ -53,17 +38,4 @@ returns-2 c =
 
 pub entries-are-good-spec : {M : Type 1} → statement M
 entries-are-good-spec =
-    tie.close
-    (tie.spec
-    Inv-loop
-    μ-loop
-    mul-n
-    shared-slice-read-n
-    cast-n
-    loop-holds
-    entry-is-good-requires
-    returns
-    add-a
-    loop-less
-    loop-again
-    returns-2)
+    tie.close (tie.spec Inv-loop μ-loop (search needs) (search needs) cast-n loop-holds (search needs) returns (search needs) (search needs) loop-again returns-2)

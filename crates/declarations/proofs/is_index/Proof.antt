@@ -14,17 +14,8 @@ returns : tie.Need-returns
 unfolding isIndex
 returns c = rw (c .if1 .taken)
 
-shared-slice-read-if3 : tie.Need-shared-slice-read-if3
-shared-slice-read-if3 c = search needs
-
 returns-2 : tie.Need-returns-2
 returns-2 c = sym (one-index _ _ (c .before .before .if2 .taken) ∙ rw (eq-eqb _ _ (c .if3 .taken)))
-
-shared-slice-read-is-index-word : tie.Need-shared-slice-read-is-index-word
-shared-slice-read-is-index-word c = search needs
-
-is-index-word-requires : tie.Need-is-index-word-requires
-is-index-word-requires c κs = search needs
 
 returns-3 : tie.Need-returns-3
 returns-3 c = c .is-index-word .ensures ∙ sym (one-index _ _ (c .before .before .before .before .if2 .taken) ∙ rw (ne-eqb _ _ (c .before .before .if3 .left)))
@@ -35,17 +26,11 @@ returns-4 c =
     let ws = c .before .before .before .before .args .ws .now in
     rw (lt-ltb 0 (length ws) (omega arith), lt-leb _ _ (c .if4 .taken))
 
-part-end-requires : tie.Need-part-end-requires
-part-end-requires c κs = search needs
-
 returns-5 : tie.Need-returns-5
 unfolding isIndex
 returns-5 c =
     let ws = c .before .before .before .before .before .before .args .ws .now in
     rw (lt-ltb 0 (length ws) (omega arith), le-leb _ _ (c .before .before .if4 .left), ne-eqb (length (part ws 0)) (length ws) λ e. c .if5 .taken (omega arith))
-
-are-index-words-requires : tie.Need-are-index-words-requires
-are-index-words-requires c κs = search needs
 
 returns-6 : tie.Need-returns-6
 unfolding isIndex
@@ -54,17 +39,4 @@ returns-6 c =
     rw (lt-ltb 0 (length ws) (omega arith), le-leb _ _ (c .before .before .before .if4 .left), eq-eqb (length (part ws 0)) (length ws) (omega arith)) (c .are-index-words .ensures)
 
 pub is-index-spec : {M : Type 1} → statement M
-is-index-spec =
-    tie.close
-    (tie.spec
-    returns
-    shared-slice-read-if3
-    returns-2
-    shared-slice-read-is-index-word
-    is-index-word-requires
-    returns-3
-    returns-4
-    part-end-requires
-    returns-5
-    are-index-words-requires
-    returns-6)
+is-index-spec = tie.close (tie.spec returns (search needs) returns-2 (search needs) (search needs) returns-3 returns-4 (search needs) returns-5 (search needs) returns-6)

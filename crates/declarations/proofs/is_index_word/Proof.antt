@@ -5,9 +5,6 @@ use Rattle.declarations.specs.Declarations.{indexWord}
 use Rattle.declarations.proofs.is_index_word.Statement.{statement}
 use Rattle.declarations.proofs.is_index_word.Tie as tie
 
-cast-name : tie.Need-cast-name
-cast-name c = search needs
-
 returns : tie.Need-returns
 unfolding indexWord
 returns c = rw (eq-eqb _ _ (c .if1 .taken))
@@ -17,4 +14,4 @@ unfolding indexWord
 returns-2 c = rw (ne-eqb _ _ (c .if1 .left))
 
 pub is-index-word-spec : {M : Type 1} → statement M
-is-index-word-spec = tie.close (tie.spec cast-name returns returns-2)
+is-index-word-spec = tie.close (tie.spec (search needs) returns returns-2)

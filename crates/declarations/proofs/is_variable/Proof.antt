@@ -11,15 +11,9 @@ returns : tie.Need-returns
 unfolding isVariable
 returns c = rw (lt-leb _ _ (c .if1 .taken))
 
-is-wanted-requires : tie.Need-is-wanted-requires
-is-wanted-requires c κs = search needs
-
 returns-2 : tie.Need-returns-2
 unfolding isVariable
 returns-2 c = rw (le-leb _ _ (c .before .before .if1 .left), sym (c .before .is-wanted .ensures) ∙ not-true _ (c .if2 .taken))
-
-is-wanted-requires-2 : tie.Need-is-wanted-requires-2
-is-wanted-requires-2 c κs = search needs
 
 returns-3 : tie.Need-returns-3
 unfolding isVariable
@@ -28,5 +22,4 @@ returns-3 c =
     rw (le-leb _ _ (c .before .before .before .if1 .left), first, turned) (c .is-wanted2 .ensures)
 
 pub is-variable-spec : {M : Type 1} → statement M
-is-variable-spec =
-    tie.close (tie.spec returns is-wanted-requires returns-2 is-wanted-requires-2 returns-3)
+is-variable-spec = tie.close (tie.spec returns (search needs) returns-2 (search needs) returns-3)

@@ -6,11 +6,8 @@ use Rattle.declarations.proofs.is_wanted.Tie as tie
 returns : tie.Need-returns
 returns c = rw (c .if1 .taken)
 
-is-index-requires : tie.Need-is-index-requires
-is-index-requires c κs = search needs
-
 returns-2 : tie.Need-returns-2
 returns-2 c = rw (c .before .if1 .left) (c .is-index .ensures)
 
 pub is-wanted-spec : {M : Type 1} → statement M
-is-wanted-spec = tie.close (tie.spec returns is-index-requires returns-2)
+is-wanted-spec = tie.close (tie.spec returns (search needs) returns-2)

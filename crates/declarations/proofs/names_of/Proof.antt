@@ -10,20 +10,11 @@ returns : tie.Need-returns
 unfolding namesIn
 returns c = rw (ne-eqb _ _ (c .if1 .taken))
 
-shared-slice-read-t5 : tie.Need-shared-slice-read-t5
-shared-slice-read-t5 c = search needs
-
 cast-t2 : tie.Need-cast-t2
 cast-t2 c = omega (arith, c .shared-slice-known .given 0)
 
-shared-slice-read-t7 : tie.Need-shared-slice-read-t7
-shared-slice-read-t7 c = search needs
-
 cast-t8 : tie.Need-cast-t8
 cast-t8 c = omega (arith, c .shared-slice-known2 .given 1)
-
-shared-slice-read-t10 : tie.Need-shared-slice-read-t10
-shared-slice-read-t10 c = search needs
 
 cast-t11 : tie.Need-cast-t11
 cast-t11 c = omega (arith, c .shared-slice-known3 .given 2)
@@ -33,14 +24,4 @@ unfolding namesIn
 returns-2 c = rw (eq-eqb _ _ (c .before .before .before .if1 .left))
 
 pub names-of-spec : {M : Type 1} → statement M
-names-of-spec =
-    tie.close
-    (tie.spec
-    returns
-    shared-slice-read-t5
-    cast-t2
-    shared-slice-read-t7
-    cast-t8
-    shared-slice-read-t10
-    cast-t11
-    returns-2)
+names-of-spec = tie.close (tie.spec returns (search needs) cast-t2 (search needs) cast-t8 (search needs) cast-t11 returns-2)

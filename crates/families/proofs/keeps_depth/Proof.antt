@@ -4,11 +4,8 @@ use Rattle.families.proofs.Depths.{row-keeps}
 use Rattle.families.proofs.keeps_depth.Statement.{statement}
 use Rattle.families.proofs.keeps_depth.Tie as tie
 
-row-of-requires : tie.Need-row-of-requires
-row-of-requires c κs = search needs
-
 returns : tie.Need-returns
 returns c = row-keeps _ _ (c .before .row-of .ensures)
 
 pub keeps-depth-spec : {M : Type 1} → statement M
-keeps-depth-spec = tie.close (tie.spec row-of-requires returns)
+keeps-depth-spec = tie.close (tie.spec (λ c κs. search needs) returns)

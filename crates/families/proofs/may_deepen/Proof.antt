@@ -1,7 +1,7 @@
 -- The three tests are the definition's.
 use native.Mathlib.Omega.{arith}
 use borrow.Author.Tests.{lt-ltb, le-ltb, eq-eqb, ne-eqb}
-use Rattle.families.specs.Code.Families.{deepensIn}
+use Rattle.families.specs.Writing.{deepensIn}
 use Rattle.families.proofs.may_deepen.Statement.{statement}
 use Rattle.families.proofs.may_deepen.Tie as tie
 

@@ -7,7 +7,7 @@ use Rattle.term.specs.Terms.{termWords}
 use Rattle.rules.specs.Steps.{Move}
 use Rattle.text.specs.Pieces.{Text}
 use Rattle.text.specs.Tokens.{tokens}
-use Rattle.format.specs.Files.{Basis, Var, LeftTerm, RightTerm, Step, Variable, File, keyText, variableText, stepText, header, lines, namesOf, Sound, InOrder}
+use Rattle.format.specs.Files.{Basis, Var, LeftTerm, RightTerm, Step, Variable, File, keyText, variableText, stepText, header, lines, namesOf, WellDeclared, InOrder}
 use Rattle.format.specs.Reading.{nothing}
 
 -- ---- the lines of a file
@@ -32,8 +32,8 @@ stepLines f = map stepLine (f .steps)
 -- ---- by stage
 pub data Reached : ℕ → File → List Text → Type 0 where
   start : Reached 0 nothing []
-  bases : {f : File} → Sound f → f .variables ≡ [] → f .steps ≡ [] → Reached 1 f (header f)
-  variables : {f : File} → Sound f → f .steps ≡ [] → Reached 2 f (header f)
-  left-side : {f : File} → Sound f → f .steps ≡ [] → termWords (namesOf f) (f .left) ≡ true → Reached 3 f (header f ++ leftLine f ∷ [])
+  bases : {f : File} → WellDeclared f → f .variables ≡ [] → f .steps ≡ [] → Reached 1 f (header f)
+  variables : {f : File} → WellDeclared f → f .steps ≡ [] → Reached 2 f (header f)
+  left-side : {f : File} → WellDeclared f → f .steps ≡ [] → termWords (namesOf f) (f .left) ≡ true → Reached 3 f (header f ++ leftLine f ∷ [])
   steps : {f : File} → InOrder f → Reached 4 f (header f ++ leftLine f ∷ rightLine f ∷ stepLines f)
   done : {f : File} → InOrder f → Reached 5 f (lines f)

@@ -5,11 +5,8 @@ use lib.ListN.{length}
 use Rattle.library.proofs.fejogbu_part.Statement.{statement}
 use Rattle.library.proofs.fejogbu_part.Tie as tie
 
-part-at-requires : tie.Need-part-at-requires
-part-at-requires c κs = search needs
-
 returns : tie.Need-returns
 returns c = (ap length (c .part-at .ensures .same), c .part-at .ensures .depth)
 
 pub fejogbu-part-spec : {M : Type 1} → statement M
-fejogbu-part-spec = tie.close (tie.spec part-at-requires returns)
+fejogbu-part-spec = tie.close (tie.spec (λ c κs. search needs) returns)

@@ -8,29 +8,11 @@ use Rattle.library.proofs.Tests.{side-left, side-right}
 use Rattle.library.proofs.fejogbu_put_step.Statement.{statement}
 use Rattle.library.proofs.fejogbu_put_step.Tie as tie
 
-put-step-requires : tie.Need-put-step-requires
-put-step-requires c κs = search needs
-
-one-or-none-requires : tie.Need-one-or-none-requires
-one-or-none-requires c κs = search needs
-
-same-length : tie.Need-same-length
-same-length c = search needs
-
 returns : tie.Need-returns
 returns c =
     let h = c .before .before .before .before .before .if1 .taken in
     let s = c .before .before .before .put-step .ensures in
     rw (eq-eqb _ _ h) (c .one-or-none .ensures ∙ ap (λ (t : Bool). cond {A = ℕ} t 1 0) (s .0), rw (side-left _ h) (s .1))
-
-put-step-requires-2 : tie.Need-put-step-requires-2
-put-step-requires-2 c κs = search needs
-
-one-or-none-requires-2 : tie.Need-one-or-none-requires-2
-one-or-none-requires-2 c κs = search needs
-
-same-length-2 : tie.Need-same-length-2
-same-length-2 c = search needs
 
 returns-2 : tie.Need-returns-2
 returns-2 c =
@@ -44,13 +26,5 @@ returns-3 c = rw (ne-eqb _ _ (c .before .if1 .left), ne-eqb _ _ (c .if2 .left)) 
 pub fejogbu-put-step-spec : {M : Type 1} → statement M
 fejogbu-put-step-spec =
     tie.close
-    (tie.spec
-    put-step-requires
-    one-or-none-requires
-    same-length
-    returns
-    put-step-requires-2
-    one-or-none-requires-2
-    same-length-2
-    returns-2
+    (tie.spec (λ c κs. search needs) (λ c κs. search needs) (λ c. search needs) returns (λ c κs. search needs) (λ c κs. search needs) (λ c. search needs) returns-2
     returns-3)

@@ -9,34 +9,11 @@ use Rattle.library.proofs.fejogbu_run.Tie as tie
 returns : tie.Need-returns
 returns c = rw (ne-eqb _ _ (c .if1 .taken)) (refl, (refl, (refl, refl)))
 
-run-steps-requires : tie.Need-run-steps-requires
-run-steps-requires c κs = search needs
-
-put-answer-requires : tie.Need-put-answer-requires
-put-answer-requires c κs = search needs
-
-same-length : tie.Need-same-length
-same-length c = search needs
-
-same-length-2 : tie.Need-same-length-2
-same-length-2 c = search needs
-
-same-length-3 : tie.Need-same-length-3
-same-length-3 c = search needs
-
 returns-2 : tie.Need-returns-2
 returns-2 c =
     let r = c .before .before .before .before .before .before .before .run-steps .ensures in
-    rw (eq-eqb _ _ (c .before .before .before .before .before .before .before .before .before .before .before .if1 .left)) (refl, (c .before .before .put-answer .ensures ∙ ap answerNumbers (r .0), (r .1, r .2)))
+    rw (eq-eqb _ _ (c .before .before .before .before .before .before .before .before .before .before .before .if1 .left))
+    (refl, (c .before .before .put-answer .ensures ∙ ap answerNumbers (r .0), (r .1, r .2)))
 
 pub fejogbu-run-spec : {M : Type 1} → statement M
-fejogbu-run-spec =
-    tie.close
-    (tie.spec
-    returns
-    run-steps-requires
-    put-answer-requires
-    same-length
-    same-length-2
-    same-length-3
-    returns-2)
+fejogbu-run-spec = tie.close (tie.spec returns (λ c κs. search needs) (λ c κs. search needs) (λ c. search needs) (λ c. search needs) (λ c. search needs) returns-2)

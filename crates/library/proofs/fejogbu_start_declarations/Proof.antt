@@ -6,20 +6,10 @@ use Rattle.library.proofs.Tests.{left-by}
 use Rattle.library.proofs.fejogbu_start_declarations.Statement.{statement}
 use Rattle.library.proofs.fejogbu_start_declarations.Tie as tie
 
-start-requires : tie.Need-start-requires
-start-requires c κs = search needs
-
-put-number-requires : tie.Need-put-number-requires
-put-number-requires c κs = search needs
-
-same-length : tie.Need-same-length
-same-length c = search needs
-
 returns : tie.Need-returns
 returns c =
     let r = c .before .before .before .start .ensures in
     (c .put-number .ensures ∙ ap putNumber (r .0), left-by _ _ _ _ _ (r .0) (r .1))
 
 pub fejogbu-start-declarations-spec : {M : Type 1} → statement M
-fejogbu-start-declarations-spec =
-    tie.close (tie.spec start-requires put-number-requires same-length returns)
+fejogbu-start-declarations-spec = tie.close (tie.spec (λ c κs. search needs) (λ c κs. search needs) (λ c. search needs) returns)

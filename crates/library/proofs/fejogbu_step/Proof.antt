@@ -9,34 +9,10 @@ use Rattle.library.proofs.fejogbu_step.Tie as tie
 returns : tie.Need-returns
 returns c = rw (ne-eqb _ _ (c .if1 .taken)) (refl, (refl, refl))
 
-take-step-requires : tie.Need-take-step-requires
-take-step-requires c κs = search needs
-
-slice-aggregate-copy-numbers : tie.Need-slice-aggregate-copy-numbers
-slice-aggregate-copy-numbers c = search needs
-
-copy-numbers-requires : tie.Need-copy-numbers-requires
-copy-numbers-requires c κs = search needs
-
-same-length : tie.Need-same-length
-same-length c = search needs
-
-same-length-2 : tie.Need-same-length-2
-same-length-2 c = search needs
-
 returns-2 : tie.Need-returns-2
 returns-2 c =
     let r = c .before .before .before .before .before .before .before .take-step .ensures in
     rw (eq-eqb _ _ (c .before .before .before .before .before .before .before .before .before .if1 .left)) (refl, (c .before .before .copy-numbers .ensures ∙ ap stepNumbers (r .0), r .1))
 
 pub fejogbu-step-spec : {M : Type 1} → statement M
-fejogbu-step-spec =
-    tie.close
-    (tie.spec
-    returns
-    take-step-requires
-    slice-aggregate-copy-numbers
-    copy-numbers-requires
-    same-length
-    same-length-2
-    returns-2)
+fejogbu-step-spec = tie.close (tie.spec returns (λ c κs. search needs) (λ c. search needs) (λ c κs. search needs) (λ c. search needs) (λ c. search needs) returns-2)

@@ -13,14 +13,13 @@ use Rattle.library.proofs.hand_out.Tie as tie
 sized : (c : tie.Else1) → let a = c .before .before .before .before .before .args in ofSizes (a .answer .now) (a .rows .now) (a .columns .now) ≡ true
 sized c = sym (c .before .are-sizes .ensures) ∙ not-false _ (c .if1 .left)
 
-are-sizes-requires : tie.Need-are-sizes-requires
-are-sizes-requires c κs = search needs
-
 returns : tie.Need-returns
 returns c = let z = sym (c .before .are-sizes .ensures) ∙ not-true _ (c .if1 .taken) in record { returned = rw z; numbers = rw z; row-words = rw z; column-words = rw z }
 
 put-numbers-requires : tie.Need-put-numbers-requires
-put-numbers-requires c κs = let a = c .before .before .before .before .before .before .args in three-sizes (length (a .answer .now)) (length (a .rows .now)) (length (a .columns .now)) (sized (c .before)) .0
+put-numbers-requires c κs =
+    let a = c .before .before .before .before .before .before .args in
+    three-sizes (length (a .answer .now)) (length (a .rows .now)) (length (a .columns .now)) (sized (c .before)) .0
 
 put-words-requires : tie.Need-put-words-requires
 put-words-requires c κs =
@@ -28,15 +27,6 @@ put-words-requires c κs =
     let a = at .before .before .before .before .before .args in
     let t = three-sizes (length (a .answer .now)) (length (a .rows .now)) (length (a .columns .now)) (sized at) in
     (t .1, t .2)
-
-same-length : tie.Need-same-length
-same-length c = search needs
-
-same-length-2 : tie.Need-same-length-2
-same-length-2 c = search needs
-
-same-length-3 : tie.Need-same-length-3
-same-length-3 c = search needs
 
 returns-2 : tie.Need-returns-2
 returns-2 c =
@@ -49,12 +39,4 @@ returns-2 c =
 pub hand-out-spec : {M : Type 1} → statement M
 hand-out-spec =
     tie.close
-    (tie.spec
-    are-sizes-requires
-    returns
-    put-numbers-requires
-    put-words-requires
-    same-length
-    same-length-2
-    same-length-3
-    returns-2)
+    (tie.spec (λ c κs. search needs) returns put-numbers-requires put-words-requires (λ c. search needs) (λ c. search needs) (λ c. search needs) returns-2)

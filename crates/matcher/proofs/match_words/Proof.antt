@@ -15,32 +15,23 @@ Inv-loop side ws m₀ k₀ m k = (k ≤ length side) × Standing ws m × Asked s
 abbrev μ-loop : tie.MeasureT-loop
 μ-loop side ws m₀ k₀ m k = length side - k
 
-begin-requires : tie.Need-begin-requires Inv-loop μ-loop
-begin-requires c κs = search needs
-
 loop-holds : tie.Need-loop-holds Inv-loop μ-loop
 loop-holds c = (omega arith, rw (c .begin .ensures) (standing-begun _), rw (c .begin .ensures) (asked-first _ _))
-
-mul-match-word : tie.Need-mul-match-word Inv-loop μ-loop
-mul-match-word c = search needs
-
-shared-slice-read-match-word : tie.Need-shared-slice-read-match-word Inv-loop μ-loop
-shared-slice-read-match-word c = search needs
 
 match-word-requires : tie.Need-match-word-requires Inv-loop μ-loop
 match-word-requires c κs = c .before .before .loop .inv .1
 
 returns : tie.Need-returns Inv-loop μ-loop
-returns c = asked-stops _ _ _ _ (c .before .before .before .before .before .loop .inv .2) (c .before .before .before .before .loop-test .taken) (c .before .before .match-word .ensures) (not-true _ (c .if1 .taken))
-
-add-k : tie.Need-add-k Inv-loop μ-loop
-add-k c = search needs
-
-loop-less : tie.Need-loop-less Inv-loop μ-loop
-loop-less c = search needs
+returns c =
+    let turn = c .before .before .before .before in
+    asked-stops _ _ _ _ (turn .before .loop .inv .2) (turn .loop-test .taken) (c .before .before .match-word .ensures) (not-true _ (c .if1 .taken))
 
 loop-again : tie.Need-loop-again Inv-loop μ-loop
-loop-again c = let w = not-false _ (c .if1 .left) in let e = c .before .before .match-word .ensures in (omega arith, standing-next (c .before .before .before .before .before .loop .inv .1) _ e w, asked-more _ _ _ _ (c .before .before .before .before .before .loop .inv .2) (c .before .before .before .before .loop-test .taken) e w)
+loop-again c =
+    let turn = c .before .before .before .before in
+    let w = not-false _ (c .if1 .left) in
+    let e = c .before .before .match-word .ensures in
+    (omega arith, standing-next (turn .before .loop .inv .1) _ e w, asked-more _ _ _ _ (turn .before .loop .inv .2) (turn .loop-test .taken) e w)
 
 returns-2 : tie.Need-returns-2 Inv-loop μ-loop
 returns-2 c = asked-last _ _ _ _ (c .before .loop .inv .2) (c .loop-test .left)
@@ -48,16 +39,5 @@ returns-2 c = asked-last _ _ _ _ (c .before .loop .inv .2) (c .loop-test .left)
 pub match-words-spec : {M : Type 1} → statement M
 match-words-spec =
     tie.close
-    (tie.spec
-    Inv-loop
-    μ-loop
-    begin-requires
-    loop-holds
-    mul-match-word
-    shared-slice-read-match-word
-    match-word-requires
-    returns
-    add-k
-    loop-less
-    loop-again
-    returns-2)
+    (tie.spec Inv-loop μ-loop (λ c κs. search needs) loop-holds (λ c. search needs) (λ c. search needs) match-word-requires returns (λ c. search needs)
+    (λ c. search needs) loop-again returns-2)

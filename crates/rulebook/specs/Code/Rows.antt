@@ -8,7 +8,8 @@ use lib.Dec.{eqb}
 use lib.ListN.{length}
 use Rattle.term.specs.Heads.{Label, word}
 use Rattle.rules.specs.Patterns.{Pattern, #_, first, second, _⟨⟩, _⟨_⟩, _⟨_∣_⟩}
-use Rattle.rules.specs.Table.{Condition, any, a-ket, a-bra, an-operator, unused, Which, child, child-i, Summand, plain, scaled, Rule, _⇒_▷_, spreading, removing, absorbing, merging, collecting, swapping, distributing, Line, _∶_, table, ruleOf}
+use Rattle.rules.specs.Table.{Condition, any, a-ket, a-bra, an-operator, unused, Which, child, child-i, Summand, plain, scaled, Rule, _⇒_▷_, spreading, removing, absorbing, merging}
+use Rattle.rules.specs.Table.{collecting, swapping, distributing, Line, _∶_, table, ruleOf}
 use Rattle.rulebook.specs.declared.Row.{Row}
 
 -- ---- the words of a pattern: in document 01's encoding, with words of unknown heads for hole k (255:k), `first k` (254:k) and `second k` (253:k)
@@ -102,5 +103,5 @@ unfolding rowFor startIn
 rowOf n = rowFor (startIn n table) (ruleOf n)
 
 -- a row in hexadecimal digits: one for the family, two for a, one for b, two each for c and d
-unfoldable pub lineOf : Row → ℕ
-lineOf r = r .family * 268435456 + r .a * 1048576 + r .b * 65536 + r .c * 256 + r .d
+unfoldable pub rowLine : Row → ℕ
+rowLine r = r .family * 268435456 + r .a * 1048576 + r .b * 65536 + r .c * 256 + r .d

@@ -13,20 +13,13 @@ returns-2 : tie.Need-returns-2
 unfolding classBy
 returns-2 c = rw (ne-eqb _ _ (c .before .if1 .left), eq-eqb _ _ (c .if2 .taken))
 
-turn-requires : tie.Need-turn-requires
-turn-requires c κs = search needs
-
 returns-3 : tie.Need-returns-3
 unfolding classBy
 returns-3 c = rw (ne-eqb _ _ (c .before .before .before .if1 .left), ne-eqb _ _ (c .before .before .if2 .left), eq-eqb _ _ (c .before .if3 .taken)) (c .turn .ensures)
-
-result-class-requires : tie.Need-result-class-requires
-result-class-requires c κs = search needs
 
 returns-4 : tie.Need-returns-4
 unfolding classBy
 returns-4 c = rw (ne-eqb _ _ (c .before .before .before .if1 .left), ne-eqb _ _ (c .before .before .if2 .left), ne-eqb _ _ (c .before .if3 .left)) (c .result-class .ensures)
 
 pub class-by-spec : {M : Type 1} → statement M
-class-by-spec =
-    tie.close (tie.spec returns returns-2 turn-requires returns-3 result-class-requires returns-4)
+class-by-spec = tie.close (tie.spec returns returns-2 (search needs) returns-3 (search needs) returns-4)

@@ -4,9 +4,6 @@ use borrow.Author.Needs.{needs}
 use Rattle.typebook.proofs.turn.Statement.{statement}
 use Rattle.typebook.proofs.turn.Tie as tie
 
-number-requires : tie.Need-number-requires
-number-requires c κs = search needs
-
 returns : tie.Need-returns
 returns c = rw (← c .before .number .ensures, eq-eqb _ _ (c .if1 .taken))
 
@@ -17,4 +14,4 @@ returns-3 : tie.Need-returns-3
 returns-3 c = rw (← c .before .before .number .ensures, ne-eqb _ _ (c .before .if1 .left), ne-eqb _ _ (c .if2 .left))
 
 pub turn-spec : {M : Type 1} → statement M
-turn-spec = tie.close (tie.spec number-requires returns returns-2 returns-3)
+turn-spec = tie.close (tie.spec (search needs) returns returns-2 returns-3)

@@ -5,8 +5,9 @@ use mathlib.Core.Option.{Option, none}
 use Prim.Native.Nat.{ℕ}
 use lib.Dec.{eqb, leb}
 use Rattle.term.specs.declared.heads.Class.{Class}
-use Rattle.term.specs.declared.heads.Class.the-variants.{Nothing, Index, Basis, Scalar, Ket, Bra, Operator, Array, Term}
+use Rattle.term.specs.declared.heads.Class.the-variants.{Index, Basis, Scalar, Ket, Bra, Operator}
 use Rattle.term.specs.Trees.{words}
+pub use Rattle.term.specs.Code.Lines.{numberOf}
 use Rattle.types.specs.Sorts.{Sort, index, basis, scalar, ket, bra, operator}
 
 pub record Shape : Type 0 where
@@ -25,17 +26,6 @@ shapeOf scalar = shape Scalar [] []
 shapeOf (ket σ) = shape Ket (words σ) []
 shapeOf (bra σ) = shape Bra [] (words σ)
 shapeOf (operator σ τ) = shape Operator (words σ) (words τ)
-
-abbrev pub numberOf : Class → ℕ
-numberOf Nothing = 0
-numberOf Index = 1
-numberOf Basis = 2
-numberOf Scalar = 3
-numberOf Ket = 4
-numberOf Bra = 5
-numberOf Operator = 6
-numberOf Array = 7
-numberOf Term = 8
 
 -- a child's class is the one that is wanted: the same, or any array where an array is wanted, and any type where a term is
 abbrev pub fitting : Class → Class → Bool

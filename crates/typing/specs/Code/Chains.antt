@@ -3,7 +3,7 @@
 use mathlib.Core.Path.{_≡_}
 use mathlib.Core.Bool.{Bool, cond, not, _&&_}
 use mathlib.Core.List.{List, [], _∷_}
-use Prim.Native.Nat.{ℕ, zero, suc, _+_, _-_, _/_, _%_, _≤_}
+use Prim.Native.Nat.{ℕ, zero, suc, _+_, _-_, _/_, _%_, _≤_, _<_}
 use lib.Dec.{eqb, ltb, leb}
 use lib.ListN.{length, getD}
 use Rattle.words.specs.Words.{laid}
@@ -12,7 +12,7 @@ use Rattle.term.specs.Terms.{maxBodies}
 use Rattle.types.specs.TypeOf.{indexTree}
 use Rattle.typebook.specs.Code.Shapes.{numberOf}
 use Rattle.typing.specs.declared.sorts.Sorted as S
-use Rattle.typing.specs.Code.Shapes.{run}
+use Rattle.typing.specs.Code.Shapes.{run, Small}
 
 -- ---- what a part is typed within, in one number: a struct would go through memory at each call
 -- how much deeper the call may go
@@ -60,19 +60,33 @@ pub record Held (types : ℕ) (st : List ℕ) (top : ℕ) (a : Around) : Type 0 
 unfoldable pub indexLen : S.Sorted → ℕ
 indexLen s = cond (eqb (numberOf (s .class)) 1) (s .left) 0
 
-unfoldable pub enters : ℕ → ℕ → Bool
-enters h k = eqb h 27 && not (eqb k 0)
+unfoldable pub entersAt : ℕ → ℕ → Bool
+entersAt h k = eqb h 27 && not (eqb k 0)
 
 abbrev pub recordAt : ℕ → S.Sorted → ℕ
 recordAt top first = top + first .left + first .right
 
 unfoldable pub entered : ℕ → ℕ → ℕ → S.Sorted → Around → Around
-unfolding enters
-entered h k top first a = cond (enters h k) (record { bodies = a .bodies + 1; inner = recordAt top first }) a
+unfolding entersAt
+entered h k top first a = cond (entersAt h k) (record { bodies = a .bodies + 1; inner = recordAt top first }) a
 
 unfoldable pub enteredOn : ℕ → ℕ → ℕ → S.Sorted → Around → List ℕ → List ℕ
-unfolding enters indexLen
-enteredOn h k top first a st = cond (enters h k) (laid st (recordAt top first) (indexLen first ∷ a .inner ∷ [])) st
+unfolding entersAt indexLen
+enteredOn h k top first a st = cond (entersAt h k) (laid st (recordAt top first) (indexLen first ∷ a .inner ∷ [])) st
+
+-- what is asked before a child is entered, and what holds then of what it is typed within
+pub record Enterable (st : List ℕ) (top budget : ℕ) (first : S.Sorted) (a : Around) : Type 0 where
+  pub room : top + 128 ≤ length st
+  pub long : length st ≤ 8320
+  pub small : Small first
+  pub low : a .inner ≤ 8320
+  pub few : a .bodies + budget ≤ 64
+  pub some : 0 < budget
+
+pub record Entered (h k top budget : ℕ) (first : S.Sorted) (a a′ : Around) (left : ℕ) (st st′ : List ℕ) : Type 0 where
+  pub around-is : a′ ≡ entered h k top first a
+  pub budget-is : left ≡ budget - 1
+  pub stack-is : st′ ≡ enteredOn h k top first a st
 
 -- whether so many bodies have a sum of this number that a bound basis may be of
 unfoldable pub inReach : ℕ → ℕ → Bool

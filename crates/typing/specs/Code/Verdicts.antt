@@ -19,9 +19,10 @@ use Rattle.typing.specs.declared.terms.Kind.the-variants as Kinds
 use Rattle.typing.specs.declared.terms.Typing as A
 use Rattle.typing.specs.Answers.{refuse, strayed, answerOf}
 use Rattle.typebook.specs.Code.Shapes.{Shape, shape, shapeOf, given}
-use Rattle.typing.specs.Code.Shapes.{shapeAt, Small, Above, plain}
+use Rattle.typing.specs.Code.Shapes.{shapeAt, Small, Above, Answers, plain}
+use Rattle.typing.specs.Code.Chains.{Around, Held}
 use Rattle.typing.specs.Code.Conclude.{runOf}
-use Rattle.declarations.specs.Declarations.{basisAt, variableAt, basisIn, variableIn, contextIn, namesIn}
+use Rattle.declarations.specs.Declarations.{goodDeclarations, basisAt, variableAt, basisIn, variableIn, contextIn, contextAt, namesIn}
 use Rattle.types.specs.Sorts.{Sort, basis, Context}
 use Rattle.types.specs.Strays.{strayOf}
 use Rattle.types.specs.TypeOf.{indexTree, typed, untyped, typeOf}
@@ -108,6 +109,25 @@ pub record Found (Γ : Context) (ws : List ℕ) (budget top : ℕ) (r : Answer.V
   pub bound : r .at ≤ length ws
   pub settled : r .typed ≡ true → Settled Γ ws budget top r st′
   pub unsettled : r .typed ≡ false → Unsettled Γ ws budget r
+
+-- ---- a part is typed under good declarations, with the trees of the sums around it on the stack
+pub record Under (ds st : List ℕ) (top : ℕ) (a : Around) : Type 0 where
+  pub good : goodDeclarations ds ≡ true
+  pub long : length st ≤ 8320
+  pub held : Held (getD ds 0 0) st top a
+
+-- and there is room for what it may take
+pub record Typable (ds ws st : List ℕ) (top budget : ℕ) (a : Around) : Type 0 where
+  pub under : Under ds st top a
+  pub room : top + need (length ws) budget ≤ length st
+  pub few : a .bodies + budget ≤ 64
+
+-- what is found of a head without children, and of a part, whatever those trees are
+abbrev pub LeafFound : List ℕ → ℕ → ℕ → Around → C.Outcome → List ℕ → List ℕ → Type 0
+LeafFound ds w top a r st st′ = (x : Held (getD ds 0 0) st top a) → Answers (leafOf ds (x .trees) w) r top st st′
+
+abbrev pub PartFound : List ℕ → List ℕ → ℕ → ℕ → Around → Answer.Verdict → List ℕ → List ℕ → Type 0
+PartFound ds ws budget top a r st st′ = (x : Held (getD ds 0 0) st top a) → Found (contextAt ds (x .trees)) ws budget top r st st′
 
 -- the answer for words that are all of them the term's, or none: the tests 8, 13, 10 and 11
 unfoldable pub typingIn : List ℕ → List ℕ → A.Typing

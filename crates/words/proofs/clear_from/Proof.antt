@@ -18,15 +18,6 @@ abbrev μ-loop : tie.MeasureT-loop
 loop-holds : tie.Need-loop-holds Inv-loop μ-loop
 loop-holds c = (refl, refl)
 
-mul-ws : tie.Need-mul-ws Inv-loop μ-loop
-mul-ws c = search needs
-
-slice-write-ws : tie.Need-slice-write-ws Inv-loop μ-loop
-slice-write-ws c = search needs
-
-add-i : tie.Need-add-i Inv-loop μ-loop
-add-i c = search needs
-
 loop-less : tie.Need-loop-less Inv-loop μ-loop
 loop-less c = simp length-set (omega arith)
 
@@ -35,25 +26,10 @@ loop-again c =
     let loop = c .before .loop in
     (cleared-more (loop .ws) (loop .i) (c .loop-test .taken) ∙ loop .inv .0, simp length-set (loop .inv .1))
 
-same-length : tie.Need-same-length Inv-loop μ-loop
-same-length c = search needs
-
 returns : tie.Need-returns Inv-loop μ-loop
 returns c =
     let loop = c .before .loop in
     sym (cleared-end (loop .ws) (loop .i) (c .loop-test .left)) ∙ loop .inv .0
 
 pub clear-from-spec : {M : Type 1} → statement M
-clear-from-spec =
-    tie.close
-    (tie.spec
-    Inv-loop
-    μ-loop
-    loop-holds
-    mul-ws
-    slice-write-ws
-    add-i
-    loop-less
-    loop-again
-    same-length
-    returns)
+clear-from-spec = tie.close (tie.spec Inv-loop μ-loop loop-holds (search needs) (search needs) (search needs) loop-less loop-again (search needs) returns)

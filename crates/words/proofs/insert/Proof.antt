@@ -9,44 +9,11 @@ use Rattle.words.proofs.insert.Tie as tie
 returns : tie.Need-returns
 returns c = let a = c .before .before .args in sym (no-room (a .ws .now) (a .at) (a .word) (a .n) (omega arith))
 
-sub-if2 : tie.Need-sub-if2
-sub-if2 c = search needs
-
 returns-2 : tie.Need-returns-2
 returns-2 c = let a = c .before .before .before .args in sym (no-room (a .ws .now) (a .at) (a .word) (a .n) (omega arith))
-
-mul-put-first : tie.Need-mul-put-first
-mul-put-first c = search needs
-
-sub-put-first : tie.Need-sub-put-first
-sub-put-first c = search needs
-
-part-put-first-start : tie.Need-part-put-first-start
-part-put-first-start c = search needs
-
-part-put-first-end : tie.Need-part-put-first-end
-part-put-first-end c = search needs
-
-put-first-requires : tie.Need-put-first-requires
-put-first-requires c κs = search needs
-
-same-length : tie.Need-same-length
-same-length c = search needs
 
 returns-3 : tie.Need-returns-3
 returns-3 c = let a = c .before .before .before .before .before .before .before .args in laid-first (a .ws .now) (a .at) (a .word) (a .n) _ _ (omega arith) refl (c .before .before .put-first .ensures)
 
 pub insert-spec : {M : Type 1} → statement M
-insert-spec =
-    tie.close
-    (tie.spec
-    returns
-    sub-if2
-    returns-2
-    mul-put-first
-    sub-put-first
-    part-put-first-start
-    part-put-first-end
-    put-first-requires
-    same-length
-    returns-3)
+insert-spec = tie.close (tie.spec returns (search needs) returns-2 (search needs) (search needs) (search needs) (search needs) (search needs) (search needs) returns-3)

@@ -23,27 +23,6 @@ loop-holds : tie.Need-loop-holds Inv-loop μ-loop
 unfolding sameWords
 loop-holds c = search needs
 
-mul-agrees : tie.Need-mul-agrees Inv-loop μ-loop
-mul-agrees c = search needs
-
-shared-slice-read-agrees : tie.Need-shared-slice-read-agrees Inv-loop μ-loop
-shared-slice-read-agrees c = search needs
-
-mul-agrees-2 : tie.Need-mul-agrees-2 Inv-loop μ-loop
-mul-agrees-2 c = search needs
-
-shared-slice-read-agrees-2 : tie.Need-shared-slice-read-agrees-2 Inv-loop μ-loop
-shared-slice-read-agrees-2 c = search needs
-
-agrees-requires : tie.Need-agrees-requires Inv-loop μ-loop
-agrees-requires c κs = search needs
-
-add-i : tie.Need-add-i Inv-loop μ-loop
-add-i c = search needs
-
-loop-less : tie.Need-loop-less Inv-loop μ-loop
-loop-less c = search needs
-
 loop-again : tie.Need-loop-again Inv-loop μ-loop
 loop-again c =
     let loop = c .before .before .before .before .loop in
@@ -58,4 +37,6 @@ returns-2 c =
     loop .inv .1 ∙ rw (take-all (loop .i) (args .a .now) (omega arith), take-all (loop .i) (args .b .now) (omega arith))
 
 pub same-spec : {M : Type 1} → statement M
-same-spec = tie.close (tie.spec Inv-loop μ-loop returns loop-holds mul-agrees shared-slice-read-agrees mul-agrees-2 shared-slice-read-agrees-2 agrees-requires add-i loop-less loop-again returns-2)
+same-spec =
+    tie.close (tie.spec Inv-loop μ-loop returns loop-holds (search needs) (search needs) (search needs) (search needs) (search needs) (search needs) (search needs) loop-again
+    returns-2)

@@ -9,11 +9,8 @@ use Rattle.cases.proofs.input.front_mut.Tie as tie
 slice-aggregate-result : tie.Need-slice-aggregate-result
 slice-aggregate-result c = sym (length-take-le _ _ (omega arith))
 
-returns : tie.Need-returns
-returns c = search needs
-
 returns-2 : tie.Need-returns-2
 returns-2 c = let a = c .before .args in record { same = sym (take-all (a .n) (a .ws .now) (omega arith)); begin = refl }
 
 pub front-mut-spec : {M : Type 1} → statement M
-front-mut-spec = tie.close (tie.spec slice-aggregate-result returns returns-2)
+front-mut-spec = tie.close (tie.spec slice-aggregate-result (search needs) returns-2)

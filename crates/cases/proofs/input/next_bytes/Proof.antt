@@ -6,14 +6,11 @@ use Rattle.cases.proofs.Slices.{front-taken}
 use Rattle.cases.proofs.input.next_bytes.Statement.{statement}
 use Rattle.cases.proofs.input.next_bytes.Tie as tie
 
-read-bytes-requires : tie.Need-read-bytes-requires
-read-bytes-requires c κs = search needs
-
-front-bytes-requires : tie.Need-front-bytes-requires
-front-bytes-requires c κs = search needs
-
 returns : tie.Need-returns
-returns c = let at = c .before .before .before .before in let e = at .read-bytes .ensures in front-taken (at .before .before .before .args .room) _ _ _ _ (c .front-bytes .ensures) (omega arith) (at .read-bytes .kept .0) refl
+returns c =
+    let at = c .before .before .before .before in
+    let e = at .read-bytes .ensures in
+    front-taken (at .before .before .before .args .room) _ _ _ _ (c .front-bytes .ensures) (omega arith) (at .read-bytes .kept .0) refl
 
 pub next-bytes-spec : {M : Type 1} → statement M
-next-bytes-spec = tie.close (tie.spec read-bytes-requires front-bytes-requires returns)
+next-bytes-spec = tie.close (tie.spec (search needs) (search needs) returns)

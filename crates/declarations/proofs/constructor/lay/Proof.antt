@@ -18,34 +18,10 @@ abbrev μ-loop : tie.MeasureT-loop
 loop-holds : tie.Need-loop-holds Inv-loop μ-loop
 loop-holds c = (omega arith, omega arith, sets-begin (c .args .ds .now) _ (c .args .ws .now))
 
-mul-ds : tie.Need-mul-ds Inv-loop μ-loop
-mul-ds c = search needs
-
-shared-slice-read-ds : tie.Need-shared-slice-read-ds Inv-loop μ-loop
-shared-slice-read-ds c = search needs
-
-add-ds : tie.Need-add-ds Inv-loop μ-loop
-add-ds c = search needs
-
-mul-ds-2 : tie.Need-mul-ds-2 Inv-loop μ-loop
-mul-ds-2 c = search needs
-
-slice-write-ds : tie.Need-slice-write-ds Inv-loop μ-loop
-slice-write-ds c = search needs
-
-add-i : tie.Need-add-i Inv-loop μ-loop
-add-i c = search needs
-
-loop-less : tie.Need-loop-less Inv-loop μ-loop
-loop-less c = search needs
-
 loop-again : tie.Need-loop-again Inv-loop μ-loop
 loop-again c =
     let loop = c .before .before .loop in
     (omega arith, simp length-set (loop .inv .1), sets-more (loop .ds) _ (c .before .before .before .args .ws .now) (loop .i) (omega arith) ∙ loop .inv .2)
-
-same-length : tie.Need-same-length Inv-loop μ-loop
-same-length c = search needs
 
 returns : tie.Need-returns Inv-loop μ-loop
 returns c =
@@ -54,18 +30,5 @@ returns c =
 
 pub lay-spec : {M : Type 1} → statement M
 lay-spec =
-    tie.close
-    (tie.spec
-    Inv-loop
-    μ-loop
-    loop-holds
-    mul-ds
-    shared-slice-read-ds
-    add-ds
-    mul-ds-2
-    slice-write-ds
-    add-i
-    loop-less
-    loop-again
-    same-length
-    returns)
+    tie.close (tie.spec Inv-loop μ-loop loop-holds (search needs) (search needs) (search needs) (search needs) (search needs) (search needs) (search needs) loop-again
+    (search needs) returns)

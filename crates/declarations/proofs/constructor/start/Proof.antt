@@ -14,23 +14,9 @@ returns-2 : tie.Need-returns-2
 unfolding leaves startAnswer
 returns-2 c = (rw (eq-eqb _ _ (c .before .if1 .left), lt-leb _ _ (c .if2 .taken)), refl)
 
-clear-from-requires : tie.Need-clear-from-requires
-clear-from-requires c κs = search needs
-
-cast-ds : tie.Need-cast-ds
-cast-ds c = search needs
-
-slice-write-ds : tie.Need-slice-write-ds
-slice-write-ds c = search needs
-
-same-length : tie.Need-same-length
-same-length c = search needs
-
 returns-3 : tie.Need-returns-3
 unfolding leaves startAnswer started
 returns-3 c = (rw (eq-eqb _ _ (c .before .before .before .before .before .if1 .left), le-leb _ _ (c .before .before .before .before .if2 .left)), rw (c .before .before .clear-from .ensures))
 
 pub start-spec : {M : Type 1} → statement M
-start-spec =
-    tie.close
-    (tie.spec returns returns-2 clear-from-requires cast-ds slice-write-ds same-length returns-3)
+start-spec = tie.close (tie.spec returns returns-2 (search needs) (search needs) (search needs) (λ c. search needs) returns-3)

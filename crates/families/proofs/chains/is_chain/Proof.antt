@@ -5,14 +5,8 @@ use Rattle.families.proofs.Heads.{sum-heads}
 use Rattle.families.proofs.chains.is_chain.Statement.{statement}
 use Rattle.families.proofs.chains.is_chain.Tie as tie
 
-cast-is-sum : tie.Need-cast-is-sum
-cast-is-sum c = search needs
-
-is-sum-requires : tie.Need-is-sum-requires
-is-sum-requires c κs = search needs
-
 returns : tie.Need-returns
 returns c = c .is-sum .ensures ∙ sum-heads _
 
 pub is-chain-spec : {M : Type 1} → statement M
-is-chain-spec = tie.close (tie.spec cast-is-sum is-sum-requires returns)
+is-chain-spec = tie.close (tie.spec (λ c. search needs) (λ c κs. search needs) returns)

@@ -17,38 +17,17 @@ abbrev μ-loop : tie.MeasureT-loop
 shared-slice-read-arity-of : tie.Need-shared-slice-read-arity-of Inv-loop μ-loop
 shared-slice-read-arity-of c = some-word (c .before .before .pre)
 
-arity-of-requires : tie.Need-arity-of-requires Inv-loop μ-loop
-arity-of-requires c κs = search needs
-
-enum-known-n : tie.Need-enum-known-n Inv-loop μ-loop
-enum-known-n c = search needs
-
-enum-told : tie.Need-enum-told Inv-loop μ-loop
-enum-told c = search needs
-
 returns : tie.Need-returns Inv-loop μ-loop
 returns c = absurd (read-first (c .before .before .before .before .before .pre) (sym (c .before .before .arity-of .ensures) ∙ c .enum-told .given .1))
 
 returns-2 : tie.Need-returns-2 Inv-loop μ-loop
-returns-2 c = walked-past _ (c .before .before .before .before .before .before .before .pre) (sym (c .before .before .before .before .arity-of .ensures) ∙ c .before .before .n .given .1) (c .if1 .taken)
+returns-2 c = let at = c .before .before .before .before in walked-past _ (at .before .before .before .pre) (sym (at .arity-of .ensures) ∙ c .before .before .n .given .1) (c .if1 .taken)
 
 loop-holds : tie.Need-loop-holds Inv-loop μ-loop
 loop-holds c = walked-none _ (c .before .before .before .before .before .before .before .pre) (sym (c .before .before .before .before .arity-of .ensures) ∙ c .before .before .n .given .1)
 
-part-end-requires : tie.Need-part-end-requires Inv-loop μ-loop
-part-end-requires c κs = search needs
-
-add-k : tie.Need-add-k Inv-loop μ-loop
-add-k c = search needs
-
-loop-less : tie.Need-loop-less Inv-loop μ-loop
-loop-less c = search needs
-
 loop-again : tie.Need-loop-again Inv-loop μ-loop
 loop-again c = walked-more (c .before .before .loop .inv) (omega arith) (omega arith) (c .part-end .ensures)
-
-part-end-requires-2 : tie.Need-part-end-requires-2 Inv-loop μ-loop
-part-end-requires-2 c κs = search needs
 
 returns-3 : tie.Need-returns-3 Inv-loop μ-loop
 returns-3 c = walked-here (c .before .before .loop .inv) (omega arith) (omega arith) (c .part-end2 .ensures)
@@ -56,19 +35,5 @@ returns-3 c = walked-here (c .before .before .loop .inv) (omega arith) (omega ar
 pub child-at-spec : {M : Type 1} → statement M
 child-at-spec =
     tie.close
-    (tie.spec
-    Inv-loop
-    μ-loop
-    shared-slice-read-arity-of
-    arity-of-requires
-    enum-known-n
-    enum-told
-    returns
-    returns-2
-    loop-holds
-    part-end-requires
-    add-k
-    loop-less
-    loop-again
-    part-end-requires-2
-    returns-3)
+    (tie.spec Inv-loop μ-loop shared-slice-read-arity-of (λ c κs. search needs) (λ c. search needs) (λ c. search needs) returns returns-2 loop-holds
+    (λ c κs. search needs) (λ c. search needs) (λ c. search needs) loop-again (λ c κs. search needs) returns-3)

@@ -17,38 +17,18 @@ multiple : (xs ys zs : List ℕ) {v w : ℕ} {out one two three four out′ : Li
     → Added two b xs three c → Added three c ys four d → Added four d zs out′ e → Added out at (v ∷ (w ∷ (xs ++ (ys ++ zs)))) out′ e
 multiple xs ys zs p q r s t = added-both p (added-both q (added-both r (added-both s t)))
 
-append-word-requires : tie.Need-append-word-requires
-append-word-requires c κs = search needs
-
-append-word-requires-2 : tie.Need-append-word-requires-2
-append-word-requires-2 c κs = search needs
-
-append-requires : tie.Need-append-requires
-append-requires c κs = search needs
-
-append-requires-2 : tie.Need-append-requires-2
-append-requires-2 c κs = search needs
-
-append-requires-3 : tie.Need-append-requires-3
-append-requires-3 c κs = search needs
-
-same-length : tie.Need-same-length
-same-length c = search needs
-
 returns : tie.Need-returns
 returns c =
-    let args = c .before .before .before .before .before .before .before .before .before .before .before .before .before .before .before .before .before .before .before .before .before .before .before .before .args in
-    multiple (args .c .now) (args .d .now) (args .x .now) (appended (c .before .before .before .before .before .before .before .before .before .before .before .before .before .before .before .before .before .before .append-word .ensures)) (appended (c .before .before .before .before .before .before .before .before .before .before .before .before .before .before .append-word2 .ensures))
-    (run (args .c .now) (c .before .before .before .before .before .before .before .before .before .before .append .ensures)) (run (args .d .now) (c .before .before .before .before .before .before .append2 .ensures)) (run (args .x .now) (c .before .before .append3 .ensures))
+    let third = c .before .before in
+    let second = third .before .before .before .before in
+    let first = second .before .before .before .before in
+    let sum = first .before .before .before .before in
+    let scale = sum .before .before .before .before in
+    let args = scale .before .before .before .before .before .before .args in
+    multiple (args .c .now) (args .d .now) (args .x .now) (appended (scale .append-word .ensures)) (appended (sum .append-word2 .ensures))
+    (run (args .c .now) (first .append .ensures)) (run (args .d .now) (second .append2 .ensures)) (run (args .x .now) (third .append3 .ensures))
 
 pub append-multiple-spec : {M : Type 1} → statement M
 append-multiple-spec =
     tie.close
-    (tie.spec
-    append-word-requires
-    append-word-requires-2
-    append-requires
-    append-requires-2
-    append-requires-3
-    same-length
-    returns)
+    (tie.spec (λ c κs. search needs) (λ c κs. search needs) (λ c κs. search needs) (λ c κs. search needs) (λ c κs. search needs) (λ c. search needs) returns)

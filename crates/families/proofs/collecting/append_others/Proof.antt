@@ -13,34 +13,15 @@ others : (ws : List ℕ) (head a b c d : ℕ) {out one two three out′ : List �
     → Added out at (head ∷ (take (a - 1) (drop 1 ws) ++ (take (c - b) (drop b ws) ++ drop d ws))) out′ e
 others ws head a b c d p q r s = added-both p (added-both q (added-both r (added-as (to-end ws d) s)))
 
-append-word-requires : tie.Need-append-word-requires
-append-word-requires c κs = search needs
-
-append-run-requires : tie.Need-append-run-requires
-append-run-requires c κs = search needs
-
-append-run-requires-2 : tie.Need-append-run-requires-2
-append-run-requires-2 c κs = search needs
-
-append-run-requires-3 : tie.Need-append-run-requires-3
-append-run-requires-3 c κs = search needs
-
-same-length : tie.Need-same-length
-same-length c = search needs
-
 returns : tie.Need-returns
 returns c =
-    let args = c .before .before .before .before .before .before .before .before .before .before .before .before .before .before .before .before .before .before .args in
+    let third = c .before .before in
+    let second = third .before .before .before .before in
+    let first = second .before .before .before .before in
+    let word = first .before .before .before .before in
+    let args = word .before .before .before .before .args in
     others (args .ws .now) (args .head) (args .first .start) (args .first .end) (args .second .start) (args .second .end)
-    (appended (c .before .before .before .before .before .before .before .before .before .before .before .before .before .before .append-word .ensures)) (appended (c .before .before .before .before .before .before .before .before .before .before .append-run .ensures)) (appended (c .before .before .before .before .before .before .append-run2 .ensures)) (appended (c .before .before .append-run3 .ensures))
+    (appended (word .append-word .ensures)) (appended (first .append-run .ensures)) (appended (second .append-run2 .ensures)) (appended (third .append-run3 .ensures))
 
 pub append-others-spec : {M : Type 1} → statement M
-append-others-spec =
-    tie.close
-    (tie.spec
-    append-word-requires
-    append-run-requires
-    append-run-requires-2
-    append-run-requires-3
-    same-length
-    returns)
+append-others-spec = tie.close (tie.spec (λ c κs. search needs) (λ c κs. search needs) (λ c κs. search needs) (λ c κs. search needs) (λ c. search needs) returns)

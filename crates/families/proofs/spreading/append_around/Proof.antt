@@ -17,24 +17,13 @@ around ws start end from to p q r =
     let from-start : take (start - 0) (drop 0 ws) ≡ take start ws = rw sub-zero in
     added-both (added-as from-start p) (added-both q (added-as (to-end ws end) r))
 
-append-run-requires : tie.Need-append-run-requires
-append-run-requires c κs = search needs
-
-append-run-requires-2 : tie.Need-append-run-requires-2
-append-run-requires-2 c κs = search needs
-
-append-run-requires-3 : tie.Need-append-run-requires-3
-append-run-requires-3 c κs = search needs
-
-same-length : tie.Need-same-length
-same-length c = search needs
-
 returns : tie.Need-returns
 returns c =
-    let args = c .before .before .before .before .before .before .before .before .before .before .before .before .before .before .args in
-    around (args .ws .now) (args .start) (args .end) (args .from) (args .to) (appended (c .before .before .before .before .before .before .before .before .before .before .append-run .ensures)) (appended (c .before .before .before .before .before .before .append-run2 .ensures)) (appended (c .before .before .append-run3 .ensures))
+    let third = c .before .before in
+    let second = third .before .before .before .before in
+    let first = second .before .before .before .before in
+    let args = first .before .before .before .before .args in
+    around (args .ws .now) (args .start) (args .end) (args .from) (args .to) (appended (first .append-run .ensures)) (appended (second .append-run2 .ensures)) (appended (third .append-run3 .ensures))
 
 pub append-around-spec : {M : Type 1} → statement M
-append-around-spec =
-    tie.close
-    (tie.spec append-run-requires append-run-requires-2 append-run-requires-3 same-length returns)
+append-around-spec = tie.close (tie.spec (λ c κs. search needs) (λ c κs. search needs) (λ c κs. search needs) (λ c. search needs) returns)

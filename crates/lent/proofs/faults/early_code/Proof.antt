@@ -22,11 +22,23 @@ returns-4 c = rw (ne-eqb _ _ (c .before .before .before .if1 .left), ne-eqb _ _ 
 
 returns-5 : tie.Need-returns-5
 unfolding earlyCode
-returns-5 c = rw (ne-eqb _ _ (c .before .before .before .before .if1 .left), ne-eqb _ _ (c .before .before .before .if2 .left), ne-eqb _ _ (c .before .before .if3 .left), ne-eqb _ _ (c .before .if4 .left), eq-eqb _ _ (c .if5 .taken))
+returns-5 c = rw (
+  ne-eqb _ _ (c .before .before .before .before .if1 .left),
+  ne-eqb _ _ (c .before .before .before .if2 .left),
+  ne-eqb _ _ (c .before .before .if3 .left),
+  ne-eqb _ _ (c .before .if4 .left),
+  eq-eqb _ _ (c .if5 .taken),
+)
 
 returns-6 : tie.Need-returns-6
 unfolding earlyCode
-returns-6 c = rw (ne-eqb _ _ (c .before .before .before .before .if1 .left), ne-eqb _ _ (c .before .before .before .if2 .left), ne-eqb _ _ (c .before .before .if3 .left), ne-eqb _ _ (c .before .if4 .left), ne-eqb _ _ (c .if5 .left))
+returns-6 c = rw (
+  ne-eqb _ _ (c .before .before .before .before .if1 .left),
+  ne-eqb _ _ (c .before .before .before .if2 .left),
+  ne-eqb _ _ (c .before .before .if3 .left),
+  ne-eqb _ _ (c .before .if4 .left),
+  ne-eqb _ _ (c .if5 .left),
+)
 
 pub early-code-spec : {M : Type 1} → statement M
 early-code-spec =

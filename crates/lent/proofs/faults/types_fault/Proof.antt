@@ -14,31 +14,21 @@ returns-2 : tie.Need-returns-2
 unfolding typesFault
 returns-2 c = rw (eq-eqb _ _ (c .before .before .if1 .left), ne-eqb _ _ (c .if2 .taken))
 
-same-type-requires : tie.Need-same-type-requires
-same-type-requires c κs = search needs
-
-unnamed-requires : tie.Need-unnamed-requires
-unnamed-requires c κs = search needs
-
 returns-3 : tie.Need-returns-3
 unfolding typesFault
-returns-3 c = c .unnamed .ensures ∙ (rw (eq-eqb _ _ (c .before .before .before .before .before .before .before .if1 .left), eq-eqb _ _ (c .before .before .before .before .before .if2 .left), sym (c .before .before .same-type .ensures) ∙ c .before .if3 .taken))
-
-unnamed-requires-2 : tie.Need-unnamed-requires-2
-unnamed-requires-2 c κs = search needs
+returns-3 c = c .unnamed .ensures ∙ (rw (
+  eq-eqb _ _ (c .before .before .before .before .before .before .before .if1 .left),
+  eq-eqb _ _ (c .before .before .before .before .before .if2 .left),
+  sym (c .before .before .same-type .ensures) ∙ c .before .if3 .taken,
+))
 
 returns-4 : tie.Need-returns-4
 unfolding typesFault
-returns-4 c = c .unnamed2 .ensures ∙ (rw (eq-eqb _ _ (c .before .before .before .before .before .before .before .if1 .left), eq-eqb _ _ (c .before .before .before .before .before .if2 .left), sym (c .before .before .same-type .ensures) ∙ c .before .if3 .left))
+returns-4 c = c .unnamed2 .ensures ∙ (rw (
+  eq-eqb _ _ (c .before .before .before .before .before .before .before .if1 .left),
+  eq-eqb _ _ (c .before .before .before .before .before .if2 .left),
+  sym (c .before .before .same-type .ensures) ∙ c .before .if3 .left,
+))
 
 pub types-fault-spec : {M : Type 1} → statement M
-types-fault-spec =
-    tie.close
-    (tie.spec
-    returns
-    returns-2
-    same-type-requires
-    unnamed-requires
-    returns-3
-    unnamed-requires-2
-    returns-4)
+types-fault-spec = tie.close (tie.spec returns returns-2 (search needs) (search needs) returns-3 (search needs) returns-4)

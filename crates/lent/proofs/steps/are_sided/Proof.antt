@@ -20,29 +20,11 @@ abbrev μ-loop : tie.MeasureT-loop
 loop-holds : tie.Need-loop-holds Inv-loop μ-loop
 loop-holds c = (omega arith, below-none _)
 
-mul-is-side : tie.Need-mul-is-side Inv-loop μ-loop
-mul-is-side c = search needs
-
-mul-is-side-2 : tie.Need-mul-is-side-2 Inv-loop μ-loop
-mul-is-side-2 c = search needs
-
-shared-slice-read-is-side : tie.Need-shared-slice-read-is-side Inv-loop μ-loop
-shared-slice-read-is-side c = search needs
-
-is-side-requires : tie.Need-is-side-requires Inv-loop μ-loop
-is-side-requires c κs = search needs
-
 returns : tie.Need-returns Inv-loop μ-loop
 unfolding sided
 returns c =
     let k = c .before .before .before .before .loop .k in
     sym (allUpTo-fails _ _ k (omega arith) (sym (c .before .is-side .ensures) ∙ not-true _ (c .if1 .taken)))
-
-add-k : tie.Need-add-k Inv-loop μ-loop
-add-k c = search needs
-
-loop-less : tie.Need-loop-less Inv-loop μ-loop
-loop-less c = search needs
 
 loop-again : tie.Need-loop-again Inv-loop μ-loop
 unfolding sided
@@ -54,18 +36,5 @@ returns-2 c =
     sym (allUpTo-all _ _ λ a h. all a (omega arith))
 
 pub are-sided-spec : {M : Type 1} → statement M
-are-sided-spec =
-    tie.close
-    (tie.spec
-    Inv-loop
-    μ-loop
-    loop-holds
-    mul-is-side
-    mul-is-side-2
-    shared-slice-read-is-side
-    is-side-requires
-    returns
-    add-k
-    loop-less
-    loop-again
+are-sided-spec = tie.close (tie.spec Inv-loop μ-loop loop-holds (search needs) (search needs) (search needs) (search needs) returns (search needs) (search needs) loop-again
     returns-2)

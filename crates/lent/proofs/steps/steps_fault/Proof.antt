@@ -9,9 +9,6 @@ use Rattle.lent.proofs.steps.steps_fault.Tie as tie
 returns : tie.Need-returns
 returns c = sym (too-many _ _ (c .if1 .taken))
 
-mul-if2 : tie.Need-mul-if2
-mul-if2 c = search needs
-
 returns-2 : tie.Need-returns-2
 returns-2 c = sym (too-short _ _ (omega arith) (c .if2 .taken))
 
@@ -25,12 +22,4 @@ returns-4 : tie.Need-returns-4
 returns-4 c = sym (sides-told _ _ (omega arith) (omega arith) (sym (c .before .are-sided .ensures) ∙ c .if3 .left))
 
 pub steps-fault-spec : {M : Type 1} → statement M
-steps-fault-spec =
-    tie.close
-    (tie.spec
-    returns
-    mul-if2
-    returns-2
-    are-sided-requires
-    returns-3
-    returns-4)
+steps-fault-spec = tie.close (tie.spec returns (search needs) returns-2 are-sided-requires returns-3 returns-4)

@@ -6,9 +6,6 @@ use borrow.Author.Needs.{needs}
 use Rattle.reader.proofs.declaring.first_length.Statement.{statement}
 use Rattle.reader.proofs.declaring.first_length.Tie as tie
 
-part-end-requires : tie.Need-part-end-requires
-part-end-requires c κs = search needs
-
 returns : tie.Need-returns
 returns c = c .part-end .ensures ∙ rw (c .before .if1 .taken) (omega arith)
 
@@ -16,4 +13,4 @@ returns-2 : tie.Need-returns-2
 returns-2 c = rw (ne-eqb _ _ (c .if1 .left))
 
 pub first-length-spec : {M : Type 1} → statement M
-first-length-spec = tie.close (tie.spec part-end-requires returns returns-2)
+first-length-spec = tie.close (tie.spec (search needs) returns returns-2)

@@ -1,28 +1,28 @@
 -- Letter by letter, as in the definition.
 use borrow.Author.Tests.{ne-eqb}
 use Rattle.reader.specs.Code.Lines.{kindNumber}
-use Rattle.format.specs.Reading.{kindOf}
+use Rattle.format.specs.Reading.{kindOfLetter}
 use Rattle.reader.proofs.declaring.kind_of.Statement.{statement}
 use Rattle.reader.proofs.declaring.kind_of.Tie as tie
 
 returns : tie.Need-returns
-unfolding kindNumber kindOf
+unfolding kindNumber kindOfLetter
 returns c = rw (c .if1 .taken)
 
 returns-2 : tie.Need-returns-2
-unfolding kindNumber kindOf
+unfolding kindNumber kindOfLetter
 returns-2 c = rw (ne-eqb _ _ (c .before .if1 .left), c .if2 .taken)
 
 returns-3 : tie.Need-returns-3
-unfolding kindNumber kindOf
+unfolding kindNumber kindOfLetter
 returns-3 c = rw (ne-eqb _ _ (c .before .before .if1 .left), ne-eqb _ _ (c .before .if2 .left), c .if3 .taken)
 
 returns-4 : tie.Need-returns-4
-unfolding kindNumber kindOf
+unfolding kindNumber kindOfLetter
 returns-4 c = rw (ne-eqb _ _ (c .before .before .before .if1 .left), ne-eqb _ _ (c .before .before .if2 .left), ne-eqb _ _ (c .before .if3 .left), c .if4 .taken)
 
 returns-5 : tie.Need-returns-5
-unfolding kindNumber kindOf
+unfolding kindNumber kindOfLetter
 returns-5 c = rw (ne-eqb _ _ (c .before .before .before .if1 .left), ne-eqb _ _ (c .before .before .if2 .left), ne-eqb _ _ (c .before .if3 .left), ne-eqb _ _ (c .if4 .left))
 
 pub kind-of-spec : {M : Type 1} → statement M

@@ -1,64 +1,39 @@
--- The words are split where the first index ends.
+-- A basis, or the words split where the first index ends.
 use mathlib.Core.Path.{sym}
+use Prim.Native.Nat.{_≤_}
 use native.Mathlib.Omega.{arith}
+use lib.ListN.{length}
 use lib.Seq.{length-take-le}
-use Rattle.words.proofs.Runs.{to-end}
-use Rattle.reader.proofs.Named.{first-within}
+use Rattle.reader.proofs.Named.{first-within, basis-words-put, variable-words-put}
 use borrow.Author.Needs.{needs}
 use Rattle.reader.proofs.declaring.put_words.Statement.{statement}
 use Rattle.reader.proofs.declaring.put_words.Tie as tie
 
-first-length-requires : tie.Need-first-length-requires
-first-length-requires c κs = search needs
-
-slice-aggregate-put-variable : tie.Need-slice-aggregate-put-variable
-slice-aggregate-put-variable c =
-    let h = first-within (c .before .before .before .before .before .args .kind) _ (c .before .before .first-length .ensures) in
-    sym (length-take-le _ _ h)
-
-mul-put-variable : tie.Need-mul-put-variable
-mul-put-variable c =
-    let h = first-within (c .before .before .before .before .before .args .kind) _ (c .before .before .first-length .ensures) in
-    omega arith
-
-sub-put-variable : tie.Need-sub-put-variable
-sub-put-variable c =
-    let h = first-within (c .before .before .before .before .before .args .kind) _ (c .before .before .first-length .ensures) in
-    omega arith
-
-part-put-variable-start : tie.Need-part-put-variable-start
-part-put-variable-start c =
-    let h = first-within (c .before .before .before .before .before .args .kind) _ (c .before .before .first-length .ensures) in
-    omega arith
-
-part-put-variable-end : tie.Need-part-put-variable-end
-part-put-variable-end c = search needs
-
-put-variable-requires : tie.Need-put-variable-requires
-put-variable-requires c κs = search needs
-
-same-length : tie.Need-same-length
-same-length c = search needs
+-- the first index ends within the words
+split : (c : tie.After-first-length) → c .first-length .result ≤ length (c .before .before .before .before .args .words .now)
+split c = first-within (c .before .before .before .before .args .kind) _ (c .first-length .ensures)
 
 returns : tie.Need-returns
-returns c =
-    record {
-      split = c .before .before .before .before .before .before .first-length .result;
-      where-split = c .before .before .before .before .before .before .first-length .ensures;
-      answer = rw (to-end (c .before .before .before .before .before .before .before .before .before .args .words .now) (c .before .before .before .before .before .before .first-length .result)) at (c .before .before .put-variable .ensures .0);
-      words = rw (to-end (c .before .before .before .before .before .before .before .before .before .args .words .now) (c .before .before .before .before .before .before .first-length .result)) at (c .before .before .put-variable .ensures .1);
-    }
+returns c = let put = c .before .before .put-basis .ensures in basis-words-put (c .before .before .before .before .if1 .taken) (put .0) (put .1)
+
+slice-aggregate-put-variable : tie.Need-slice-aggregate-put-variable
+slice-aggregate-put-variable c = sym (length-take-le _ _ (split (c .before .before)))
+
+mul-put-variable : tie.Need-mul-put-variable
+mul-put-variable c = let h = split (c .before .before) in omega arith
+
+sub-put-variable : tie.Need-sub-put-variable
+sub-put-variable c = let h = split (c .before .before) in omega arith
+
+part-put-variable-start : tie.Need-part-put-variable-start
+part-put-variable-start c = let h = split (c .before .before) in omega arith
+
+returns-2 : tie.Need-returns-2
+returns-2 c =
+    let at = c .before .before .before .before .before .before in
+    let put = c .before .before .put-variable .ensures in
+    variable-words-put _ (at .before .if1 .left) (at .first-length .ensures) (put .0) (put .1)
 
 pub put-words-spec : {M : Type 1} → statement M
-put-words-spec =
-    tie.close
-    (tie.spec
-    first-length-requires
-    slice-aggregate-put-variable
-    mul-put-variable
-    sub-put-variable
-    part-put-variable-start
-    part-put-variable-end
-    put-variable-requires
-    same-length
-    returns)
+put-words-spec = tie.close (tie.spec (search needs) (search needs) returns (search needs) slice-aggregate-put-variable mul-put-variable sub-put-variable part-put-variable-start
+    (search needs) (search needs) (search needs) returns-2)

@@ -26,7 +26,10 @@ refused-requires-2 : tie.Need-refused-requires-2
 refused-requires-2 c κs = search needs
 
 returns-2 : tie.Need-returns-2
-returns-2 c = (refl, λ f b v. wrong-line (c .refused2 .ensures) (no-types f (over-limit 32 _ (sym (c .before .before .before .before .before .read-number .ensures) ∙ c .before .before .before .n .given .1) (omega arith) (c .before .if1 .taken))))
+returns-2 c =
+    let n = c .before .before .before in
+    let told = sym (n .before .before .read-number .ensures) ∙ n .n .given .1 in
+    (refl, λ f b v. wrong-line (c .refused2 .ensures) (no-types f (over-limit 32 _ told (omega arith) (c .before .if1 .taken))))
 
 start-requires : tie.Need-start-requires
 start-requires c κs = search needs
@@ -38,20 +41,16 @@ same-length : tie.Need-same-length
 same-length c = search needs
 
 returns-3 : tie.Need-returns-3
-returns-3 c = (search needs, λ f b v. types-line f _ b v (c .before .before .before .before .before .before .before .before .before .before .before .before .pre) (in-limit 32 _ (sym (c .before .before .before .before .before .before .before .before .before .read-number .ensures) ∙ c .before .before .before .before .before .before .before .n .given .1) (omega arith) (c .before .before .before .before .before .if1 .left)) (omega arith) (c .before .before .before .start .ensures .0) (c .before .before .before .start .ensures .1) (c .refused3 .ensures))
+returns-3 c =
+    let n = c .before .before .before .before .before .before .before in
+    let told = sym (n .before .before .read-number .ensures) ∙ n .n .given .1 in
+    let few = in-limit 32 _ told (omega arith) (c .before .before .before .before .before .if1 .left) in
+    let put = c .before .before .before .start .ensures in
+    (search needs, λ f b v. types-line f _ b v (n .before .before .before .before .before .pre) few (omega arith) (put .0) (put .1) (c .refused3 .ensures))
 
 pub take-types-spec : {M : Type 1} → statement M
 take-types-spec =
     tie.close
     (tie.spec
-    read-number-requires
-    enum-known-n
-    enum-told
-    refused-requires
-    returns
-    refused-requires-2
-    returns-2
-    start-requires
-    refused-requires-3
-    same-length
-    returns-3)
+    read-number-requires enum-known-n enum-told refused-requires returns refused-requires-2 returns-2 start-requires
+    refused-requires-3 same-length returns-3)

@@ -63,15 +63,5 @@ pub read-field-spec : {M : Type 1} → statement M
 read-field-spec =
     tie.close
     (tie.spec
-    returns
-    piece-at-requires
-    sub-read-number
-    part-read-number-start
-    part-read-number-end
-    read-number-requires
-    enum-known-n
-    enum-told
-    returns-2
-    returns-3
-    cast-t12
-    returns-4)
+    returns piece-at-requires sub-read-number part-read-number-start part-read-number-end read-number-requires
+    enum-known-n enum-told returns-2 returns-3 cast-t12 returns-4)

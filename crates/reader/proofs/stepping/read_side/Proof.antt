@@ -5,9 +5,6 @@ use borrow.Author.Needs.{needs}
 use Rattle.reader.proofs.stepping.read_side.Statement.{statement}
 use Rattle.reader.proofs.stepping.read_side.Tie as tie
 
-piece-at-requires : tie.Need-piece-at-requires
-piece-at-requires c κs = search needs
-
 returns : tie.Need-returns
 returns c = no-side _ (c .before .before .piece-at .ensures) (c .if1 .taken)
 
@@ -24,6 +21,4 @@ returns-4 : tie.Need-returns-4
 returns-4 c = other-letter _ (c .before .before .before .before .before .piece-at .ensures) (omega arith) (c .before .if2 .left) (c .if3 .left)
 
 pub read-side-spec : {M : Type 1} → statement M
-read-side-spec =
-    tie.close
-    (tie.spec piece-at-requires returns shared-slice-read-letter returns-2 returns-3 returns-4)
+read-side-spec = tie.close (tie.spec (search needs) returns shared-slice-read-letter returns-2 returns-3 returns-4)

@@ -17,34 +17,22 @@ use Rattle.step.proofs.building.build_side.Statement.{statement}
 use Rattle.step.proofs.building.build_side.Tie as tie
 
 abbrev Inv-loop : tie.InvT-loop
-Inv-loop ds term place ws m side out₀ at done₀ k₀ out done k =
+Inv-loop ds term place ws m side out₀ done₀ k₀ out done k =
     (k ≤ length side) × (length out ≡ length out₀)
-    × ((x : Caught ds ws m) → x .outer ≡ outerAt term place → (indexless side ≡ true) ⊎ AllSorted x → Added out₀ at (pieces (contextAt ds (x .bodies)) (x .trees) (take k side)) out done)
+    × ((x : Caught ds ws m) → x .outer ≡ outerAt term place → (indexless side ≡ true) ⊎ AllSorted x → Added out₀ 0 (pieces (contextAt ds (x .bodies)) (x .trees) (take k side)) out done)
 
 abbrev μ-loop : tie.MeasureT-loop
-μ-loop ds term place ws m side out₀ at done₀ k₀ out done k = length side - k
+μ-loop ds term place ws m side out₀ done₀ k₀ out done k = length side - k
 
 loop-holds : tie.Need-loop-holds Inv-loop μ-loop
 unfolding pieces
-loop-holds c = (omega arith, refl, λ x o t. none-added _ _ (c .before .before .before .before .before .pre .1))
-
-mul-build-word : tie.Need-mul-build-word Inv-loop μ-loop
-mul-build-word c = search needs
-
-shared-slice-read-build-word : tie.Need-shared-slice-read-build-word Inv-loop μ-loop
-shared-slice-read-build-word c = search needs
+loop-holds c = (omega arith, refl, λ x o t. none-added _ _ (omega arith))
 
 build-word-requires : tie.Need-build-word-requires Inv-loop μ-loop
 build-word-requires c κs =
     let pre = c .before .before .before .before .before .before .before .before .before .pre in
     let more = c .before .before .loop-test .taken in
-    ((pre .0 .0, pre .0 .1, side-typed _ _ more (pre .0 .2)), side-asks _ _ more _ (pre .2))
-
-add-k : tie.Need-add-k Inv-loop μ-loop
-add-k c = search needs
-
-loop-less : tie.Need-loop-less Inv-loop μ-loop
-loop-less c = search needs
+    ((pre .0 .0, pre .0 .1, side-typed _ _ more (pre .0 .2)), side-asks _ _ more _ (pre .1))
 
 loop-again : tie.Need-loop-again Inv-loop μ-loop
 loop-again c =
@@ -58,9 +46,6 @@ loop-again c =
       λ x o t. added-as (side-more _ _ more (contextAt (start .args .ds .now) (x .bodies)) (x .trees)) (added-both (loop .inv .2 x o t) (written x o (side-typed _ _ more t))),
     )
 
-same-length : tie.Need-same-length Inv-loop μ-loop
-same-length c = search needs
-
 returns : tie.Need-returns Inv-loop μ-loop
 returns c =
     let args = c .before .before .before .before .before .before .before .args in
@@ -70,15 +55,5 @@ returns c =
 pub build-side-spec : {M : Type 1} → statement M
 build-side-spec =
     tie.close
-    (tie.spec
-    Inv-loop
-    μ-loop
-    loop-holds
-    mul-build-word
-    shared-slice-read-build-word
-    build-word-requires
-    add-k
-    loop-less
-    loop-again
-    same-length
-    returns)
+    (tie.spec Inv-loop μ-loop loop-holds (λ c. search needs) (λ c. search needs) build-word-requires (λ c. search needs) (λ c. search needs) loop-again
+    (λ c. search needs) returns)

@@ -12,38 +12,19 @@ use Rattle.step.proofs.building.build_word.Tie as tie
 hole : (c : tie.Else1) → let args = c .before .before .before .before .before .args in args .word % 256 < args .t5 .held
 hole c = asked-hole _ _ (c .before .before .before .before .before .pre .1) (omega arith)
 
-append-word-requires : tie.Need-append-word-requires
-append-word-requires c κs = search needs
-
-same-length : tie.Need-same-length
-same-length c = search needs
-
 returns : tie.Need-returns
 returns c = λ x o t. added-as (piece-word _ (x .trees) _ (c .before .before .before .before .if1 .taken)) (appended (c .before .before .append-word .ensures))
-
-cast-hole : tie.Need-cast-hole
-cast-hole c = search needs
-
-mul-start : tie.Need-mul-start
-mul-start c = search needs
 
 element-copy-out-start : tie.Need-element-copy-out-start
 element-copy-out-start c = let b = caught-bounds (c .before .before .before .before .before .pre .0 .0) _ (hole c) in search needs
 
-mul-end : tie.Need-mul-end
-mul-end c = search needs
-
 element-copy-out-end : tie.Need-element-copy-out-end
 element-copy-out-end c = let b = caught-bounds (c .before .before .before .before .before .before .before .pre .0 .0) _ (hole (c .before .before)) in search needs
 
-append-run-requires : tie.Need-append-run-requires
-append-run-requires c κs = search needs
-
-same-length-2 : tie.Need-same-length-2
-same-length-2 c = search needs
-
 returns-2 : tie.Need-returns-2
-returns-2 c = λ x o t. added-as (caught-run x _ (hole (c .before .before .before .before .before .before .before)) ∙ piece-hole _ (x .trees) _ (omega arith) (c .before .before .before .before .before .if2 .taken)) (appended (c .before .before .append-run .ensures))
+returns-2 c = λ x o t.
+    let test = c .before .before .before .before .before in
+    added-as (caught-run x _ (hole (test .before .before)) ∙ piece-hole _ (x .trees) _ (omega arith) (test .if2 .taken)) (appended (c .before .before .append-run .ensures))
 
 mul-append-index : tie.Need-mul-append-index
 mul-append-index c = let b = caught-bounds (c .before .before .before .before .before .before .before .pre .0 .0) _ (hole (c .before .before)) in search needs
@@ -54,17 +35,11 @@ sub-append-index c = let b = caught-bounds (c .before .before .before .before .b
 part-append-index-start : tie.Need-part-append-index-start
 part-append-index-start c = let b = caught-bounds (c .before .before .before .before .before .before .before .pre .0 .0) _ (hole (c .before .before)) in search needs
 
-part-append-index-end : tie.Need-part-append-index-end
-part-append-index-end c = search needs
-
 append-index-requires : tie.Need-append-index-requires
 append-index-requires c κs =
     let x = c .before .before .before .before .before .before .before .before .before .pre .0 in
     let h = caught-sort (x .0) _ (hole (c .before .before .before .before)) (index-asks _ (omega arith) (c .before .before .if2 .left) (x .2)) in
     (x .0 .bodies, rw (x .1) at h)
-
-same-length-3 : tie.Need-same-length-3
-same-length-3 c = search needs
 
 returns-3 : tie.Need-returns-3
 returns-3 c =
@@ -77,22 +52,6 @@ returns-3 c =
 pub build-word-spec : {M : Type 1} → statement M
 build-word-spec =
     tie.close
-    (tie.spec
-    append-word-requires
-    same-length
-    returns
-    cast-hole
-    mul-start
-    element-copy-out-start
-    mul-end
-    element-copy-out-end
-    append-run-requires
-    same-length-2
-    returns-2
-    mul-append-index
-    sub-append-index
-    part-append-index-start
-    part-append-index-end
-    append-index-requires
-    same-length-3
-    returns-3)
+    (tie.spec (λ c κs. search needs) (λ c. search needs) returns (λ c. search needs) (λ c. search needs) element-copy-out-start (λ c. search needs) element-copy-out-end
+    (λ c κs. search needs) (λ c. search needs) returns-2 mul-append-index sub-append-index part-append-index-start (λ c. search needs) append-index-requires
+    (λ c. search needs) returns-3)

@@ -17,12 +17,6 @@ first c = let pre = c .before .before .before .before .pre in kind-asks (pre .1)
 returns : tie.Need-returns
 returns c = λ x k e t. any-met _ k _ (sym e ∙ c .if1 .taken)
 
-element-copy-out-start : tie.Need-element-copy-out-start
-element-copy-out-start c = search needs
-
-element-copy-out-end : tie.Need-element-copy-out-end
-element-copy-out-end c = search needs
-
 mul-is-without : tie.Need-mul-is-without
 mul-is-without c = let b = caught-bounds (c .before .before .before .before .before .before .pre .0) 1 (body (c .before .before)) in search needs
 
@@ -35,14 +29,8 @@ part-is-without-start c = let b = caught-bounds (c .before .before .before .befo
 part-is-without-end : tie.Need-part-is-without-end
 part-is-without-end c = let b = caught-bounds (c .before .before .before .before .before .before .pre .0) 1 (body (c .before .before)) in search needs
 
-is-without-requires : tie.Need-is-without-requires
-is-without-requires c κs = search needs
-
 returns-2 : tie.Need-returns-2
 returns-2 c = λ x k e t. c .is-without .ensures ∙ own-met x k _ e (body (c .before .before .before .before)) (c .before .before .before .before .if2 .taken)
-
-element-copy-out-from : tie.Need-element-copy-out-from
-element-copy-out-from c = search needs
 
 mul-class-of : tie.Need-mul-class-of
 mul-class-of c = let b = caught-bounds (c .before .before .before .before .before .pre .0) 0 (first (c .before)) in search needs
@@ -53,12 +41,6 @@ sub-class-of c = let b = caught-bounds (c .before .before .before .before .befor
 part-class-of-start : tie.Need-part-class-of-start
 part-class-of-start c = let b = caught-bounds (c .before .before .before .before .before .pre .0) 0 (first (c .before)) in search needs
 
-part-class-of-end : tie.Need-part-class-of-end
-part-class-of-end c = search needs
-
-class-of-requires : tie.Need-class-of-requires
-class-of-requires c κs = search needs
-
 add-result : tie.Need-add-result
 add-result c = let pre = c .before .before .before .before .before .before .before .pre in let few = condition-few (pre .1) (pre .2) in search needs
 
@@ -68,21 +50,5 @@ returns-3 c = λ x k e t. kind-met x k _ e (c .before .before .before .before .i
 pub is-met-spec : {M : Type 1} → statement M
 is-met-spec =
     tie.close
-    (tie.spec
-    returns
-    element-copy-out-start
-    element-copy-out-end
-    mul-is-without
-    sub-is-without
-    part-is-without-start
-    part-is-without-end
-    is-without-requires
-    returns-2
-    element-copy-out-from
-    mul-class-of
-    sub-class-of
-    part-class-of-start
-    part-class-of-end
-    class-of-requires
-    add-result
-    returns-3)
+    (tie.spec returns (λ c. search needs) (λ c. search needs) mul-is-without sub-is-without part-is-without-start part-is-without-end (λ c κs. search needs) returns-2
+    (λ c. search needs) mul-class-of sub-class-of part-class-of-start (λ c. search needs) (λ c κs. search needs) add-result returns-3)

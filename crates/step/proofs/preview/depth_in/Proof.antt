@@ -6,28 +6,21 @@ use Rattle.step.proofs.Previewed.{both-there}
 use Rattle.step.proofs.preview.depth_in.Statement.{statement}
 use Rattle.step.proofs.preview.depth_in.Tie as tie
 
-append-requires : tie.Need-append-requires
-append-requires c κs = search needs
-
-append-requires-2 : tie.Need-append-requires-2
-append-requires-2 c κs = search needs
-
 slice-reshare-prefix-part-at : tie.Need-slice-reshare-prefix-part-at
-slice-reshare-prefix-part-at c = both-there _ _ _ (c .before .before .before .before .before .before .append .ensures) (c .before .before .append2 .ensures) (c .before .before .before .before .before .before .before .before .before .before .before .pre) .0
+slice-reshare-prefix-part-at c =
+    let at = c .before .before in
+    both-there _ _ _ (at .before .before .before .before .append .ensures) (at .append2 .ensures) (at .before .before .before .before .before .before .before .before .before .pre) .0
 
 slice-aggregate-part-at : tie.Need-slice-aggregate-part-at
 slice-aggregate-part-at c = sym (length-take-le _ _ (slice-reshare-prefix-part-at (c .before)))
 
-part-at-requires : tie.Need-part-at-requires
-part-at-requires c κs = search needs
-
-same-length : tie.Need-same-length
-same-length c = search needs
-
 returns : tie.Need-returns
 returns c =
     let at = c .before .before .before .before .before in
-    c .part-at .ensures .depth ∙ rw (both-there _ _ _ (at .before .before .before .before .append .ensures) (at .append2 .ensures) (at .before .before .before .before .before .before .before .before .before .pre) .1)
+    let both = both-there _ _ _ (at .before .before .before .before .append .ensures) (at .append2 .ensures) (at .before .before .before .before .before .before .before .before .before .pre) in
+    (c .part-at .ensures .depth ∙ rw (both .1), both .2)
 
 pub depth-in-spec : {M : Type 1} → statement M
-depth-in-spec = tie.close (tie.spec append-requires append-requires-2 slice-reshare-prefix-part-at slice-aggregate-part-at part-at-requires same-length returns)
+depth-in-spec =
+    tie.close
+    (tie.spec (λ c κs. search needs) (λ c κs. search needs) slice-reshare-prefix-part-at slice-aggregate-part-at (λ c κs. search needs) (λ c. search needs) returns)

@@ -14,26 +14,14 @@ use Rattle.step.proofs.preview.preview_step.Tie as tie
 accepted : (c : tie.Else1) → let a = c .before .before .before .before .before .args in typingOf (a .ds .now) (a .ws .now) (a .n) .code ≡ 0
 accepted c = sym (ap (λ (t : Typing). t .code) (c .before .before .type-term .ensures)) ∙ c .if1 .left
 
-type-term-requires : tie.Need-type-term-requires
-type-term-requires c κs = search needs
-
 returns : tie.Need-returns
 returns c = let e = c .before .before .type-term .ensures in preview-refused _ _ _ _ (λ z. c .if1 .taken (ap (λ (t : Typing). t .code) e ∙ z)) e
-
-cast-place : tie.Need-cast-place
-cast-place c = search needs
 
 slice-aggregate-make : tie.Need-slice-aggregate-make
 slice-aggregate-make c = sym (length-take-le _ _ (inside-slice _ _ _ (accepted (c .before .before .before))))
 
-slice-aggregate-make-2 : tie.Need-slice-aggregate-make-2
-slice-aggregate-make-2 c = search needs
-
 make-requires : tie.Need-make-requires
 make-requires c κs = (termed _ _ _ (accepted (c .before .before .before .before)), refl)
-
-showing-requires : tie.Need-showing-requires
-showing-requires c κs = search needs
 
 returns-2 : tie.Need-returns-2
 returns-2 c =
@@ -42,27 +30,19 @@ returns-2 c =
     let e = done .before .before .before .before .before .before .before .type-term .ensures in
     shows-refused _ _ _ a _ e (made-for _ _ _ a _ _ _ (done .make .ensures)) (c .before .if2 .taken) (c .showing .ensures)
 
-cast-keeps-depth : tie.Need-cast-keeps-depth
-cast-keeps-depth c = search needs
-
-keeps-depth-requires : tie.Need-keeps-depth-requires
-keeps-depth-requires c κs = search needs
-
 add-showing : tie.Need-add-showing
 add-showing c =
     let done = c .before .before .before .before .before .before in
     let a = accepted (done .before .before .before .before .before) in
     omega (arith, room _ _ _ a _ _ _ (made-for _ _ _ a _ _ _ (done .make .ensures)) (c .before .before .before .if2 .left), slice-size _ _ _ a)
 
-showing-requires-2 : tie.Need-showing-requires-2
-showing-requires-2 c κs = search needs
-
 returns-3 : tie.Need-returns-3
 returns-3 c =
     let done = c .before .before .before .before .before .before .before in
     let a = accepted (done .before .before .before .before .before) in
     let e = done .before .before .before .before .before .before .before .type-term .ensures in
-    shows-kept _ _ _ a _ e (made-for _ _ _ a _ _ _ (done .make .ensures)) (c .before .before .before .before .if2 .left) (sym (c .before .before .keeps-depth .ensures) ∙ c .before .if3 .taken) (c .showing2 .ensures)
+    shows-kept _ _ _ a _ e (made-for _ _ _ a _ _ _ (done .make .ensures)) (c .before .before .before .before .if2 .left)
+    (sym (c .before .before .keeps-depth .ensures) ∙ c .before .if3 .taken) (c .showing2 .ensures)
 
 slice-aggregate-depth-of-both : tie.Need-slice-aggregate-depth-of-both
 slice-aggregate-depth-of-both c =
@@ -93,37 +73,17 @@ add-showing-2 c =
     let a = accepted (done .before .before .before .before .before) in
     omega (arith, room _ _ _ a _ _ _ (made-for _ _ _ a _ _ _ (done .make .ensures)) (c .before .before .before .before .before .before .if2 .left), slice-size _ _ _ a)
 
-showing-requires-3 : tie.Need-showing-requires-3
-showing-requires-3 c κs = search needs
-
 returns-4 : tie.Need-returns-4
 returns-4 c =
     let done = c .before .before .before .before .before .before .before .before .before .before in
     let a = accepted (done .before .before .before .before .before) in
     let e = done .before .before .before .before .before .before .before .type-term .ensures in
-    shows-done _ _ _ a _ e (made-for _ _ _ a _ _ _ (done .make .ensures)) (c .before .before .before .before .before .before .before .if2 .left) (c .before .depth-of-both .ensures) (c .showing3 .ensures)
+    shows-done _ _ _ a _ e (made-for _ _ _ a _ _ _ (done .make .ensures)) (c .before .before .before .before .before .before .before .if2 .left)
+    (c .before .depth-of-both .ensures) (c .showing3 .ensures)
 
 pub preview-step-spec : {M : Type 1} → statement M
 preview-step-spec =
     tie.close
-    (tie.spec
-    type-term-requires
-    returns
-    cast-place
-    slice-aggregate-make
-    slice-aggregate-make-2
-    make-requires
-    showing-requires
-    returns-2
-    cast-keeps-depth
-    keeps-depth-requires
-    add-showing
-    showing-requires-2
-    returns-3
-    slice-aggregate-depth-of-both
-    array-share-prefix-out
-    slice-aggregate-depth-of-both-2
-    depth-of-both-requires
-    add-showing-2
-    showing-requires-3
-    returns-4)
+    (tie.spec (λ c κs. search needs) returns (λ c. search needs) slice-aggregate-make (λ c. search needs) make-requires (λ c κs. search needs) returns-2
+    (λ c. search needs) (λ c κs. search needs) add-showing (λ c κs. search needs) returns-3 slice-aggregate-depth-of-both array-share-prefix-out
+    slice-aggregate-depth-of-both-2 depth-of-both-requires add-showing-2 (λ c κs. search needs) returns-4)

@@ -1,6 +1,6 @@
 -- The place is told of a bad step alone.
 use borrow.Author.Tests.{ne-eqb}
-use Rattle.step.specs.Previews.{shown}
+use Rattle.step.specs.Code.Making.{shown}
 use Rattle.step.proofs.preview.showing.Statement.{statement}
 use Rattle.step.proofs.preview.showing.Tie as tie
 

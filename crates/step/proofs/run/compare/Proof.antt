@@ -12,9 +12,6 @@ slice-aggregate-same c = sym (length-take-le _ _ (c .before .before .before .pre
 slice-aggregate-same-2 : tie.Need-slice-aggregate-same-2
 slice-aggregate-same-2 c = sym (length-take-le _ _ (c .before .before .before .before .pre .1))
 
-same-requires : tie.Need-same-requires
-same-requires c κs = search needs
-
 returns : tie.Need-returns
 unfolding compared
 returns c = rw (sym (c .before .same .ensures) ∙ c .if1 .taken)
@@ -25,9 +22,6 @@ slice-aggregate-first-difference c = sym (length-take-le _ _ (c .before .before 
 slice-aggregate-first-difference-2 : tie.Need-slice-aggregate-first-difference-2
 slice-aggregate-first-difference-2 c = sym (length-take-le _ _ (c .before .before .before .before .before .before .before .before .pre .1))
 
-first-difference-requires : tie.Need-first-difference-requires
-first-difference-requires c κs = search needs
-
 returns-2 : tie.Need-returns-2
 unfolding compared
 returns-2 c = rw (sym (c .before .before .before .before .same .ensures) ∙ c .before .before .before .if1 .left, c .first-difference .ensures)
@@ -35,12 +29,5 @@ returns-2 c = rw (sym (c .before .before .before .before .same .ensures) ∙ c .
 pub compare-spec : {M : Type 1} → statement M
 compare-spec =
     tie.close
-    (tie.spec
-    slice-aggregate-same
-    slice-aggregate-same-2
-    same-requires
-    returns
-    slice-aggregate-first-difference
-    slice-aggregate-first-difference-2
-    first-difference-requires
-    returns-2)
+    (tie.spec slice-aggregate-same slice-aggregate-same-2 (λ c κs. search needs) returns slice-aggregate-first-difference slice-aggregate-first-difference-2
+    (λ c κs. search needs) returns-2)

@@ -12,12 +12,6 @@ step-on-requires c κs =
     let a = asks (pre .0 .2 .right) in
     (a .0, a .1, pre .1)
 
-same-length : tie.Need-same-length
-same-length c = search needs
-
-same-length-2 : tie.Need-same-length-2
-same-length-2 c = search needs
-
 returns : tie.Need-returns
 unfolding sideIn
 returns c =
@@ -30,12 +24,6 @@ step-on-requires-2 c κs =
     let a = asks (pre .0 .2 .left) in
     (a .0, a .1, pre .1)
 
-same-length-3 : tie.Need-same-length-3
-same-length-3 c = search needs
-
-same-length-4 : tie.Need-same-length-4
-same-length-4 c = search needs
-
 returns-2 : tie.Need-returns-2
 unfolding sideIn
 returns-2 c =
@@ -45,12 +33,4 @@ returns-2 c =
 pub move-side-spec : {M : Type 1} → statement M
 move-side-spec =
     tie.close
-    (tie.spec
-    step-on-requires
-    same-length
-    same-length-2
-    returns
-    step-on-requires-2
-    same-length-3
-    same-length-4
-    returns-2)
+    (tie.spec step-on-requires (λ c. search needs) (λ c. search needs) returns step-on-requires-2 (λ c. search needs) (λ c. search needs) returns-2)

@@ -13,8 +13,4 @@ unfolding sideIn
 returns-2 c = rw (ne-eqb _ _ (c .if1 .left))
 
 pub side-named-spec : {M : Type 1} → statement M
-side-named-spec =
-    tie.close
-    (tie.spec
-    returns
-    returns-2)
+side-named-spec = tie.close (tie.spec returns returns-2)

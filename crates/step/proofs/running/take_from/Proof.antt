@@ -27,18 +27,6 @@ abbrev μ-loop : tie.MeasureT-loop
 loop-holds : tie.Need-loop-holds Inv-loop μ-loop
 loop-holds c = (omega arith, refl, refl, c .before .before .before .before .before .pre .1, λ p S x. (p, x, refl))
 
-mul-at : tie.Need-mul-at Inv-loop μ-loop
-mul-at c = search needs
-
-mul-side : tie.Need-mul-side Inv-loop μ-loop
-mul-side c = search needs
-
-shared-slice-read-side : tie.Need-shared-slice-read-side Inv-loop μ-loop
-shared-slice-read-side c = search needs
-
-step-there-requires : tie.Need-step-there-requires Inv-loop μ-loop
-step-there-requires c κs = search needs
-
 move-side-requires : tie.Need-move-side-requires Inv-loop μ-loop
 move-side-requires c κs =
     let start = c .before .before .before .before .before .before .before .before .before .before .before .before .pre in
@@ -46,41 +34,21 @@ move-side-requires c κs =
     let now = loop .4 (start .0 .0) (start .0 .1) (start .0 .2) in
     ((now .0, start .0 .1, now .1), loop .3)
 
-side-named-requires : tie.Need-side-named-requires Inv-loop μ-loop
-side-named-requires c κs = search needs
-
-add-t28 : tie.Need-add-t28 Inv-loop μ-loop
-add-t28 c = search needs
-
-cast-t29 : tie.Need-cast-t29 Inv-loop μ-loop
-cast-t29 c = search needs
-
-same-length : tie.Need-same-length Inv-loop μ-loop
-same-length c = search needs
-
-same-length-2 : tie.Need-same-length-2 Inv-loop μ-loop
-same-length-2 c = search needs
-
-same-length-3 : tie.Need-same-length-3 Inv-loop μ-loop
-same-length-3 c = search needs
-
 returns : tie.Need-returns Inv-loop μ-loop
 returns c =
     λ p S x.
-    let now = c .before .before .before .before .before .before .before .before .before .before .before .before .before .before .before .before .before .loop .inv .4 p S x in
-    let moved = c .before .before .before .before .before .before .before .before .before .before .move-side .ensures .1 (now .0) S (now .1) in
-    stops (now .0) _ _ _ _ (move-is _ _ _ _ refl (c .before .before .before .before .before .before .before .before .before .before .before .before .before .before .step-there .ensures)) (moved .0) (moved .1) (omega arith) (now .2) _ _ (c .before .side-named .ensures) refl (c .before .before .if1 .taken)
-
-add-k : tie.Need-add-k Inv-loop μ-loop
-add-k c = search needs
-
-loop-less : tie.Need-loop-less Inv-loop μ-loop
-loop-less c = search needs
+    let call = c .before .before .before .before .before .before .before .before .before .before in
+    let now = call .before .before .before .before .before .before .before .loop .inv .4 p S x in
+    let moved = call .move-side .ensures .1 (now .0) S (now .1) in
+    let named = move-is _ _ _ _ refl (call .before .before .before .before .step-there .ensures) in
+    stops (now .0) _ _ _ _ named (moved .0) (moved .1) (omega arith) (now .2) _ _ (c .before .side-named .ensures) refl (c .before .before .if1 .taken)
 
 loop-again : tie.Need-loop-again Inv-loop μ-loop
 loop-again c =
-    let loop = c .before .before .before .before .before .before .before .before .before .before .before .before .before .before .before .loop .inv in
-    let told = c .before .before .before .before .before .before .before .before .move-side .ensures in (
+    let call = c .before .before .before .before .before .before .before .before in
+    let loop = call .before .before .before .before .before .before .before .loop .inv in
+    let told = call .move-side .ensures in
+    let named = move-is _ _ _ _ refl (call .before .before .before .before .step-there .ensures) in (
       omega arith,
       search needs,
       search needs,
@@ -88,17 +56,8 @@ loop-again c =
       λ p S x.
           let now = loop .4 p S x in
           let moved = told .1 (now .0) S (now .1) in
-          (_, moved .1, goes-on (now .0) _ _ _ _ (move-is _ _ _ _ refl (c .before .before .before .before .before .before .before .before .before .before .before .before .step-there .ensures)) (moved .0) (moved .1) (omega arith) (now .2) (c .if1 .left)),
+          (_, moved .1, goes-on (now .0) _ _ _ _ named (moved .0) (moved .1) (omega arith) (now .2) (c .if1 .left)),
     )
-
-same-length-4 : tie.Need-same-length-4 Inv-loop μ-loop
-same-length-4 c = search needs
-
-same-length-5 : tie.Need-same-length-5 Inv-loop μ-loop
-same-length-5 c = search needs
-
-same-length-6 : tie.Need-same-length-6 Inv-loop μ-loop
-same-length-6 c = search needs
 
 returns-2 : tie.Need-returns-2 Inv-loop μ-loop
 returns-2 c =
@@ -109,26 +68,6 @@ returns-2 c =
 pub take-from-spec : {M : Type 1} → statement M
 take-from-spec =
     tie.close
-    (tie.spec
-    Inv-loop
-    μ-loop
-    loop-holds
-    mul-at
-    mul-side
-    shared-slice-read-side
-    step-there-requires
-    move-side-requires
-    side-named-requires
-    add-t28
-    cast-t29
-    same-length
-    same-length-2
-    same-length-3
-    returns
-    add-k
-    loop-less
-    loop-again
-    same-length-4
-    same-length-5
-    same-length-6
-    returns-2)
+    (tie.spec Inv-loop μ-loop loop-holds (λ c. search needs) (λ c. search needs) (λ c. search needs) (λ c κs. search needs) move-side-requires (λ c κs. search needs)
+    (λ c. search needs) (λ c. search needs) (λ c. search needs) (λ c. search needs) (λ c. search needs) returns (λ c. search needs) (λ c. search needs) loop-again
+    (λ c. search needs) (λ c. search needs) (λ c. search needs) returns-2)

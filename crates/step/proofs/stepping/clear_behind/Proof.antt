@@ -12,14 +12,8 @@ slice-relend-prefix-clear-from c = search needs
 slice-aggregate-clear-from : tie.Need-slice-aggregate-clear-from
 slice-aggregate-clear-from c = sym (length-take-le _ _ (slice-relend-prefix-clear-from (c .before)))
 
-clear-from-requires : tie.Need-clear-from-requires
-clear-from-requires c κs = search needs
-
-same-length : tie.Need-same-length
-same-length c = search needs
-
 returns : tie.Need-returns
 returns c = let pre = c .before .before .before .before .before .pre in clear-words _ _ (pre .1) (pre .2) _ (pre .0) _ (c .before .before .clear-from .ensures)
 
 pub clear-behind-spec : {M : Type 1} → statement M
-clear-behind-spec = tie.close (tie.spec slice-relend-prefix-clear-from slice-aggregate-clear-from clear-from-requires same-length returns)
+clear-behind-spec = tie.close (tie.spec slice-relend-prefix-clear-from slice-aggregate-clear-from (λ c κs. search needs) (λ c. search needs) returns)

@@ -1,5 +1,5 @@
 -- The limits are those of the whole result, found from the new part and its place.
-use mathlib.Core.Path.{_≡_, refl, sym, _∙_}
+use mathlib.Core.Path.{_≡_, sym, _∙_}
 use mathlib.Core.Bool.{true, false}
 use Prim.Native.Nat.{_+_, _≤_, _<_}
 use native.Mathlib.Omega.{arith}
@@ -19,7 +19,7 @@ use Rattle.step.proofs.stepping.finish.Tie as tie
 -- whether the place takes the result
 found : (c : tie.After-is-too-deep)
     → let args = c .before .before .before .before .before .args in
-    (f : Fresh (args .term .now) (args .place) (args .end) (args .deepens) (args .old) (args .out .now) (args .new))
+    (f : Fresh (args .term .now) (args .place) (args .made) (args .out .now))
     → (length (words (f .result)) ≤ 4096)
     × (c .is-too-deep .result ≡ true → 64 < level (f .tree) (args .place) + depth (f .result))
     × (c .is-too-deep .result ≡ false → level (f .tree) (args .place) + depth (f .result) ≤ 64)
@@ -29,104 +29,59 @@ found c = λ f.
     let told : c .is-too-deep .result ≡ ltb 64 n = c .is-too-deep .ensures ∙ rw (place-level f, result-depth f short) in
     (short, λ e. omega (arith, ltb-true 64 n (sym told ∙ e)), λ e. omega (arith, ltb-false 64 n (sym told ∙ e)))
 
--- the words behind the part, behind its new ones
-behind : (c : tie.After-append)
-    → let args = c .before .before .before .before .before .before .before .before .before .args in
-    Added (args .out .now) (args .new) (drop (args .end) (args .term .now)) (c .append .last .0) (c .append .result)
-behind c =
-    let args = c .before .before .before .before .before .before .before .before .before .args in
-    added-as (to-end (args .term .now) (args .end)) (added _ _ _ _ _ (c .append .ensures .0) (c .append .ensures .1))
+-- where the function began, from where the words behind the part are appended
+abbrev begun : tie.After-append → tie.Start
+begun c = c .before .before .before .before .before .before .before .before .before .before
 
-refused-requires : tie.Need-refused-requires
-refused-requires c κs = search needs
+-- they stand behind its new ones
+behind : (c : tie.After-append)
+    → let args = begun c .args in
+    Added (args .out .now) (args .made .written .end) (drop (args .place + args .made .size) (args .term .now)) (c .append .last .0) (c .append .result)
+behind c =
+    let args = begun c .args in
+    added-as (to-end (args .term .now) (args .place + args .made .size)) (added _ _ _ _ _ (c .append .ensures .0) (c .append .ensures .1))
 
 returns : tie.Need-returns
-returns c = λ f. made-long f _ _ (c .before .if1 .taken) (f .size) (c .refused .ensures .0)
+returns c = λ f. made-long f _ (c .if1 .taken) (f .size)
 
 slice-reshare-prefix-is-too-deep : tie.Need-slice-reshare-prefix-is-too-deep
 slice-reshare-prefix-is-too-deep c = search needs
 
 slice-aggregate-is-too-deep : tie.Need-slice-aggregate-is-too-deep
-slice-aggregate-is-too-deep c = let args = c .before .before .before .before .args in sym (length-take-le (args .new) (args .out .now) (omega (arith, c .before .before .before .before .pre .size)))
+slice-aggregate-is-too-deep c = sym (length-take-le _ _ (slice-reshare-prefix-is-too-deep (c .before)))
 
 is-too-deep-requires : tie.Need-is-too-deep-requires
 is-too-deep-requires c κs =
     let start = c .before .before .before .before in
     let f = start .pre in
-    (seated f (omega (arith, f .new-end, c .before .if1 .left)), omega (arith, end-inside f, f .short), omega (arith, length-take (start .args .new) (start .args .out .now), f .size))
-
-refused-requires-2 : tie.Need-refused-requires-2
-refused-requires-2 c κs = search needs
-
-same-length : tie.Need-same-length
-same-length c = search needs
+    (seated f (omega (arith, f .new-end, c .before .if1 .left)), omega (arith, end-inside f, f .short), omega (arith, length-take (start .args .made .written .end) (start .args .out .now), f .size))
 
 returns-2 : tie.Need-returns-2
-returns-2 c =
-    λ f.
-    let x = found (c .before .before) f in
-    made-deep f _ _ (x .1 (c .before .if2 .taken)) (f .size) (c .refused2 .ensures .0)
-
-mul-append : tie.Need-mul-append
-mul-append c = let b = end-inside (c .before .before .before .before .before .before .before .pre) in search needs
-
-sub-append : tie.Need-sub-append
-sub-append c = let b = end-inside (c .before .before .before .before .before .before .before .pre) in search needs
-
-part-append-start : tie.Need-part-append-start
-part-append-start c = let b = end-inside (c .before .before .before .before .before .before .before .pre) in search needs
-
-part-append-end : tie.Need-part-append-end
-part-append-end c = search needs
-
-append-requires : tie.Need-append-requires
-append-requires c κs = search needs
-
-sub-if3 : tie.Need-sub-if3
-sub-if3 c = omega (arith, end-inside (c .before .before .before .before .before .before .before .before .before .before .before .pre), c .before .before .before .before .before .before .before .before .before .before .before .pre .short)
-
-refused-requires-3 : tie.Need-refused-requires-3
-refused-requires-3 c κs = search needs
-
-same-length-2 : tie.Need-same-length-2
-same-length-2 c = search needs
+returns-2 c = λ f. made-deep f _ (found (c .before) f .1 (c .if2 .taken)) (f .size)
 
 returns-3 : tie.Need-returns-3
-returns-3 c =
-    λ f.
-    let a = behind (c .before .before .before .before) in
-    made-behind f _ _ (omega (arith, f .short, end-inside f, c .before .if3 .taken, a .end, f .size, f .new-end, length-drop (c .before .before .before .before .before .before .before .before .before .before .before .before .before .args .end) (c .before .before .before .before .before .before .before .before .before .before .before .before .before .args .term .now))) (a .size ∙ f .size) (c .refused3 .ensures .0)
-
-same-length-3 : tie.Need-same-length-3
-same-length-3 c = search needs
+returns-3 c = λ f.
+    let at = c .before .before .before in
+    let a = behind at in
+    let args = begun at .args in
+    made-behind f _ (omega (arith, f .short, end-inside f, c .if3 .taken, a .end, f .size, f .new-end, length-drop (args .place + args .made .size) (args .term .now))) (a .size ∙ f .size)
 
 returns-4 : tie.Need-returns-4
-returns-4 c =
-    λ f.
-    let a = behind (c .before .before .before) in
-    let x = found (c .before .before .before .before .before .before .before) f in
-    made-good f _ _ (x .0) (x .2 (c .before .before .before .before .before .before .if2 .left)) (omega (arith, x .0, f .short, end-inside f, c .if3 .left, a .end, f .size, f .new-end, length-drop (c .before .before .before .before .before .before .before .before .before .before .before .before .args .end) (c .before .before .before .before .before .before .before .before .before .before .before .before .args .term .now))) a refl
+returns-4 c = λ f.
+    let at = c .before .before .before in
+    let a = behind at in
+    let args = begun at .args in
+    let x = found (at .before .before .before .before .before) f in
+    made-good f (x .0) (x .2 (at .before .before .before .before .if2 .left))
+    (omega (arith, x .0, f .short, end-inside f, c .if3 .left, a .end, f .size, f .new-end, length-drop (args .place + args .made .size) (args .term .now))) a
 
 pub finish-spec : {M : Type 1} → statement M
 finish-spec =
     tie.close
-    (tie.spec
-    refused-requires
-    returns
-    slice-reshare-prefix-is-too-deep
-    slice-aggregate-is-too-deep
-    is-too-deep-requires
-    refused-requires-2
-    same-length
-    returns-2
-    mul-append
-    sub-append
-    part-append-start
-    part-append-end
-    append-requires
-    sub-if3
-    refused-requires-3
-    same-length-2
-    returns-3
-    same-length-3
-    returns-4)
+    (tie.spec returns slice-reshare-prefix-is-too-deep slice-aggregate-is-too-deep is-too-deep-requires (λ c. search needs) returns-2
+    (λ c. let f = c .before .before .before .before .before .before .before .pre in omega (arith, end-inside f, f .short))
+    (λ c. let b = end-inside (c .before .before .before .before .before .before .before .before .pre) in search needs)
+    (λ c. let b = end-inside (c .before .before .before .before .before .before .before .before .pre) in search needs)
+    (λ c. let b = end-inside (c .before .before .before .before .before .before .before .before .pre) in search needs) (λ c. search needs) (λ c κs. search needs)
+    (λ c. let f = c .before .before .before .before .before .before .before .before .before .before .before .before .pre in omega (arith, end-inside f, f .short))
+    (λ c. search needs) returns-3 (λ c. search needs) returns-4)

@@ -1,8 +1,10 @@
 -- The rule, then the words, then the place, then the part that is there, then the level tell.
-use mathlib.Core.Path.{sym}
-use Prim.Native.Nat.{_+_}
+use mathlib.Core.Path.{_≡_, sym}
+use mathlib.Core.Bool.{false}
+use Prim.Native.Nat.{_+_, _≤_}
 use native.Mathlib.Omega.{arith}
 use borrow.Author.Tests.{le-ltb, not-true, not-false}
+use lib.Dec.{ltb}
 use Rattle.term.specs.Parts.{partDepth}
 use Rattle.term.specs.Terms.{levelAt}
 use Rattle.step.proofs.Limits.{part-shallow, seat-below, seat-fits, seat-flat}
@@ -10,47 +12,32 @@ use borrow.Author.Needs.{needs}
 use Rattle.step.proofs.stepping.is_too_deep.Statement.{statement}
 use Rattle.step.proofs.stepping.is_too_deep.Tie as tie
 
-returns : tie.Need-returns
-returns c =
-    let start = c .before .before .before in
-    let args = start .args in
-    sym (le-ltb 64 (levelAt (args .term .now) (args .place) + partDepth (args .part .now) 0) (seat-flat (start .pre .0) (not-true _ (c .if1 .taken))))
+-- a part that fits is not too deep
+fits : (c : tie.Start) → let n = levelAt (c .args .term .now) (c .args .place) + partDepth (c .args .part .now) 0 in n ≤ 64 → false ≡ ltb 64 n
+fits c h = sym (le-ltb 64 (levelAt (c .args .term .now) (c .args .place) + partDepth (c .args .part .now) 0) h)
 
-add-if2 : tie.Need-add-if2
-add-if2 c = search needs
+returns : tie.Need-returns
+returns c = let start = c .before .before .before in fits start (seat-flat (start .pre .0) (not-true _ (c .if1 .taken)))
 
 returns-2 : tie.Need-returns-2
-returns-2 c =
-    let start = c .before .before .before .before in
-    let args = start .args in
-    sym (le-ltb 64 (levelAt (args .term .now) (args .place) + partDepth (args .part .now) 0) (omega (arith, seat-below (start .pre .0), part-shallow (args .part .now))))
+returns-2 c = let start = c .before .before .before .before in fits start (omega (arith, seat-below (start .pre .0), part-shallow (start .args .part .now)))
 
 returns-3 : tie.Need-returns-3
 returns-3 c =
     let start = c .before .before .before .before .before in
-    let args = start .args in
-    sym (le-ltb 64 (levelAt (args .term .now) (args .place) + partDepth (args .part .now) 0) (omega (arith, seat-fits (start .pre .0) (not-false _ (c .before .before .if1 .left)), part-shallow (args .part .now))))
-
-part-at-requires : tie.Need-part-at-requires
-part-at-requires c κs = search needs
+    fits start (omega (arith, seat-fits (start .pre .0) (not-false _ (c .before .before .if1 .left)), part-shallow (start .args .part .now)))
 
 add-if4 : tie.Need-add-if4
 add-if4 c = let start = c .before .before .before .before .before .before .before in omega (arith, c .part-at .ensures .depth, part-shallow (start .args .part .now), start .pre)
 
 returns-4 : tie.Need-returns-4
-returns-4 c =
-    let start = c .before .before .before .before .before .before .before .before in
-    let args = start .args in
-    sym (le-ltb 64 (levelAt (args .term .now) (args .place) + partDepth (args .part .now) 0) (omega (arith, seat-below (start .pre .0), c .before .part-at .ensures .depth)))
+returns-4 c = let start = c .before .before .before .before .before .before .before .before in fits start (omega (arith, seat-below (start .pre .0), c .before .part-at .ensures .depth))
 
 returns-5 : tie.Need-returns-5
 returns-5 c =
     let start = c .before .before .before .before .before .before .before .before .before in
-    let args = start .args in
-    sym (le-ltb 64 (levelAt (args .term .now) (args .place) + partDepth (args .part .now) 0) (omega (arith, seat-fits (start .pre .0) (not-false _ (c .before .before .before .before .before .before .if1 .left)), c .before .before .part-at .ensures .depth, c .if5 .taken)))
-
-level-at-requires : tie.Need-level-at-requires
-level-at-requires c κs = search needs
+    let deep = not-false _ (c .before .before .before .before .before .before .if1 .left) in
+    fits start (omega (arith, seat-fits (start .pre .0) deep, c .before .before .part-at .ensures .depth, c .if5 .taken))
 
 add-result : tie.Need-add-result
 add-result c =
@@ -64,15 +51,4 @@ returns-6 c = rw (c .level-at .ensures, c .before .before .before .part-at .ensu
 pub is-too-deep-spec : {M : Type 1} → statement M
 is-too-deep-spec =
     tie.close
-    (tie.spec
-    returns
-    add-if2
-    returns-2
-    returns-3
-    part-at-requires
-    add-if4
-    returns-4
-    returns-5
-    level-at-requires
-    add-result
-    returns-6)
+    (tie.spec returns (λ c. search needs) returns-2 returns-3 (λ c κs. search needs) add-if4 returns-4 returns-5 (λ c κs. search needs) add-result returns-6)

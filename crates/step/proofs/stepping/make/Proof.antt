@@ -1,121 +1,54 @@
 -- The tests in their order; what each finds, the equation of a step says.
+use mathlib.Core.Path.{refl}
 use borrow.Author.Needs.{needs}
-use Rattle.families.proofs.Lines.{ruled}
-use Rattle.step.proofs.Stepped.{site, site-room, made-20, made-21, made-22, fine, finished}
+use Rattle.families.proofs.Lines.{Ruled, ruled}
+use Rattle.step.proofs.Stepped.{site, made-20, made-21, made-22, fine, finished}
 use Rattle.step.proofs.stepping.make.Statement.{statement}
 use Rattle.step.proofs.stepping.make.Tie as tie
 
-cast-rule : tie.Need-cast-rule
-cast-rule c = search needs
+-- where the function began, from where the rule is one and there is a part at the place
+abbrev begun : tie.Else2 → tie.Start
+begun c = c .before .before .before .before .before .before .before .before .before
 
-row-of-requires : tie.Need-row-of-requires
-row-of-requires c κs = search needs
-
-refused-requires : tie.Need-refused-requires
-refused-requires c κs = search needs
+-- the rule
+rule : (c : tie.Else1) → Ruled (c .before .before .row-of .result) (c .before .before .before .before .before .before .before .args .s .rule)
+rule c = ruled _ _ (c .before .before .row-of .ensures) (c .if1 .left)
 
 returns : tie.Need-returns
-returns c = λ x. made-20 x _ _ _ (c .before .before .before .before .before .before .before .before .pre .1) _ (c .before .before .before .row-of .ensures) (c .before .if1 .taken) (c .refused .ensures .0)
-
-cast-place : tie.Need-cast-place
-cast-place c = search needs
-
-refused-requires-2 : tie.Need-refused-requires-2
-refused-requires-2 c κs = search needs
+returns c = λ x. made-20 x _ _ _ (c .before .before .before .before .before .before .before .pre .1) _ (c .before .before .row-of .ensures) (c .if1 .taken) refl
 
 returns-2 : tie.Need-returns-2
-returns-2 c = λ x. made-21 x _ _ _ (c .before .before .before .before .before .before .before .before .before .before .pre .1) (ruled _ _ (c .before .before .before .before .before .row-of .ensures) (c .before .before .before .if1 .left)) (c .before .if2 .taken) (c .refused2 .ensures .0)
-
-mul-ws : tie.Need-mul-ws
-mul-ws c = search needs
-
-sub-ws : tie.Need-sub-ws
-sub-ws c = search needs
-
-part-ws-start : tie.Need-part-ws-start
-part-ws-start c = search needs
-
-part-ws-end : tie.Need-part-ws-end
-part-ws-end c = search needs
-
-cast-rewrite-part : tie.Need-cast-rewrite-part
-cast-rewrite-part c = search needs
-
-cast-rewrite-part-2 : tie.Need-cast-rewrite-part-2
-cast-rewrite-part-2 c = search needs
+returns-2 c = λ x. made-21 x _ _ _ (c .before .before .before .before .before .before .before .before .before .pre .1) (rule (c .before .before)) (c .if2 .taken) refl
 
 rewrite-part-requires : tie.Need-rewrite-part-requires
-rewrite-part-requires c κs = (site (c .before .before .before .before .before .before .before .before .before .before .before .before .before .pre .0) _ (c .before .before .before .before .if2 .left), c .before .before .before .before .before .before .before .before .row-of .ensures)
-
-same-length : tie.Need-same-length
-same-length c = search needs
+rewrite-part-requires c κs = let at = c .before in (site (begun at .pre .0) _ (at .if2 .left), at .if2 .left, at .before .before .before .before .row-of .ensures)
 
 returns-3 : tie.Need-returns-3
-returns-3 c =
-    λ x.
-    let call = c .before .before .before .before in
-    let place = call .before .before .before .before .before in
-    let row = place .before .before .before .before in
-    let start = row .before .before .before .before .before in
-    let k = ruled _ _ (row .row-of .ensures) (place .before .before .if1 .left) in
-    made-22 x _ k (place .if2 .left) _ (start .pre .1) _ _ (call .rewrite-part .ensures .0) (c .if3 .taken)
-
-add-finish : tie.Need-add-finish
-add-finish c =
+returns-3 c = λ x.
     let call = c .before .before .before .before .before in
-    let place = call .before .before .before .before .before in
-    let row = place .before .before .before .before in
-    let start = row .before .before .before .before .before in
-    let r = site-room (start .pre .0) _ (place .if2 .left) _ (call .rewrite-part .ensures .1 (c .before .if3 .left) .size) in
-    search needs
+    let at = call .before .before in
+    made-22 x _ (rule (at .before .before)) (at .if2 .left) _ (begun at .pre .1) _ (call .rewrite-part .result) (call .rewrite-part .ensures .0) (c .if3 .taken)
 
 finish-requires : tie.Need-finish-requires
 finish-requires c κs =
-    let good = c .before .before .if3 .left in
+    let good = c .before .if3 .left in
     let call = c .before .before .before .before .before .before in
-    let place = call .before .before .before .before .before in
-    let row = place .before .before .before .before in
-    let start = row .before .before .before .before .before in
-    let k = ruled _ _ (row .row-of .ensures) (place .before .before .if1 .left) in
-    fine (start .pre .0) _ k (place .if2 .left) _ (start .pre .1) _ _ (call .rewrite-part .ensures .0) (call .rewrite-part .ensures .1 good) good .fresh
-
-same-length-2 : tie.Need-same-length-2
-same-length-2 c = search needs
+    let at = call .before .before in
+    let made = call .rewrite-part .ensures in
+    fine (begun at .pre .0) _ (rule (at .before .before)) (at .if2 .left) _ (begun at .pre .1) _ _ (made .0) (made .1 good) good .fresh
 
 returns-4 : tie.Need-returns-4
-returns-4 c =
-    λ x.
-    let good = c .before .before .before .before .before .if3 .left in
+returns-4 c = λ x.
+    let good = c .before .before .before .before .if3 .left in
     let call = c .before .before .before .before .before .before .before .before .before in
-    let place = call .before .before .before .before .before in
-    let row = place .before .before .before .before in
-    let start = row .before .before .before .before .before in
-    let k = ruled _ _ (row .row-of .ensures) (place .before .before .if1 .left) in
+    let at = call .before .before in
     let made = call .rewrite-part .ensures in
-    let f = fine x _ k (place .if2 .left) _ (start .pre .1) _ _ (made .0) (made .1 good) good in
-    finished x _ k (place .if2 .left) _ (start .pre .1) _ _ (made .0) (made .1 good) f (c .before .before .finish .ensures (f .fresh))
+    let k = rule (at .before .before) in
+    let f = fine x _ k (at .if2 .left) _ (begun at .pre .1) _ _ (made .0) (made .1 good) good in
+    finished x _ k (at .if2 .left) _ (begun at .pre .1) _ _ (made .0) (made .1 good) f (c .before .before .finish .ensures (f .fresh))
 
 pub make-spec : {M : Type 1} → statement M
 make-spec =
     tie.close
-    (tie.spec
-    cast-rule
-    row-of-requires
-    refused-requires
-    returns
-    cast-place
-    refused-requires-2
-    returns-2
-    mul-ws
-    sub-ws
-    part-ws-start
-    part-ws-end
-    cast-rewrite-part
-    cast-rewrite-part-2
-    rewrite-part-requires
-    same-length
-    returns-3
-    add-finish
-    finish-requires
-    same-length-2
-    returns-4)
+    (tie.spec (λ c. search needs) (λ c κs. search needs) returns (λ c. search needs) returns-2 rewrite-part-requires (λ c. search needs) returns-3 finish-requires
+    (λ c. search needs) returns-4)

@@ -4,20 +4,10 @@ use Rattle.step.proofs.Putting.{put-words}
 use Rattle.step.proofs.stepping.put.Statement.{statement}
 use Rattle.step.proofs.stepping.put.Tie as tie
 
-add-clear-behind : tie.Need-add-clear-behind
-add-clear-behind c = search needs
-
-clear-behind-requires : tie.Need-clear-behind-requires
-clear-behind-requires c κs = search needs
-
-append-requires : tie.Need-append-requires
-append-requires c κs = search needs
-
-same-length : tie.Need-same-length
-same-length c = search needs
-
 returns : tie.Need-returns
-returns c = put-words _ _ _ (c .before .before .before .before .before .before .before .before .before .before .pre .0) _ _ (c .before .before .before .before .before .before .clear-behind .ensures) (c .before .before .append .ensures .1)
+returns c =
+    let cleared = c .before .before .before .before .before .before in
+    put-words _ _ _ (cleared .before .before .before .before .pre .0) _ _ (cleared .clear-behind .ensures) (c .before .before .append .ensures .1)
 
 pub put-spec : {M : Type 1} → statement M
-put-spec = tie.close (tie.spec add-clear-behind clear-behind-requires append-requires same-length returns)
+put-spec = tie.close (tie.spec (λ c. search needs) (λ c κs. search needs) (λ c κs. search needs) (λ c. search needs) returns)

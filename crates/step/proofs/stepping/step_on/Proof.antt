@@ -11,76 +11,47 @@ slice-reshare-prefix-make : tie.Need-slice-reshare-prefix-make
 slice-reshare-prefix-make c = inside-slice _ _ _ (c .before .before .before .pre .0)
 
 slice-aggregate-make : tie.Need-slice-aggregate-make
-slice-aggregate-make c = sym (length-take-le _ _ (inside-slice _ _ _ (c .before .before .before .before .pre .0)))
+slice-aggregate-make c = sym (length-take-le _ _ (slice-reshare-prefix-make (c .before)))
 
 make-requires : tie.Need-make-requires
-make-requires c κs = (termed _ _ _ (c .before .before .before .before .before .pre .0), c .before .before .before .before .before .pre .2)
-
-same-length : tie.Need-same-length
-same-length c = search needs
-
-same-length-2 : tie.Need-same-length-2
-same-length-2 c = search needs
+make-requires c κs = let pre = c .before .before .before .before .before .pre in (termed _ _ _ (pre .0), pre .2)
 
 returns : tie.Need-returns
 returns c =
-    let a = c .before .before .before .before .before .before .before .before .before .before .pre .0 in
-    refuses _ _ _ a _ _ _ (made-for _ _ _ a _ _ _ (c .before .before .before .before .make .ensures)) (c .if1 .taken) (c .before .before .before .before .before .before .before .before .before .before .pre .1)
-
-cast-place : tie.Need-cast-place
-cast-place c = search needs
+    let at = c .before .before .before .before in
+    let pre = at .before .before .before .before .before .before .pre in
+    refuses _ _ _ (pre .0) _ _ _ (made-for _ _ _ (pre .0) _ _ _ (at .make .ensures)) (c .if1 .taken) (pre .1)
 
 slice-reshare-prefix-put : tie.Need-slice-reshare-prefix-put
 slice-reshare-prefix-put c =
-    let a = c .before .before .before .before .before .before .before .before .before .before .before .before .pre .0 in
-    room-out _ _ _ a _ _ _ (made-for _ _ _ a _ _ _ (c .before .before .before .before .before .before .make .ensures)) (c .before .before .if1 .left)
+    let at = c .before .before .before .before .before .before in
+    let a = at .before .before .before .before .before .before .pre .0 in
+    room-out _ _ _ a _ _ _ (made-for _ _ _ a _ _ _ (at .make .ensures)) (c .before .before .if1 .left)
 
 slice-aggregate-put : tie.Need-slice-aggregate-put
-slice-aggregate-put c =
-    let a = c .before .before .before .before .before .before .before .before .before .before .before .before .before .pre .0 in
-    sym (length-take-le _ _ (room-out _ _ _ a _ _ _ (made-for _ _ _ a _ _ _ (c .before .before .before .before .before .before .before .make .ensures)) (c .before .before .before .if1 .left)))
+slice-aggregate-put c = sym (length-take-le _ _ (slice-reshare-prefix-put (c .before)))
 
 put-requires : tie.Need-put-requires
 put-requires c κs =
-    let a = c .before .before .before .before .before .before .before .before .before .before .before .before .before .pre .0 in
-    let m = made-for _ _ _ a _ _ _ (c .before .before .before .before .before .before .before .make .ensures) in (
-      rw (length-take-le _ _ (room-out _ _ _ a _ _ _ m (c .before .before .before .if1 .left))) (room _ _ _ a _ _ _ m (c .before .before .before .if1 .left)),
-      inside-slice _ _ _ a,
-      c .before .before .before .before .before .before .before .before .before .before .before .before .before .pre .1,
-    )
+    let at = c .before .before .before .before .before .before .before in
+    let pre = at .before .before .before .before .before .before .pre in
+    let l = room _ _ _ (pre .0) _ _ _ (made-for _ _ _ (pre .0) _ _ _ (at .make .ensures)) (c .before .before .before .if1 .left) in
+    (rw (length-take-le _ _ (slice-reshare-prefix-put (c .before))) l, inside-slice _ _ _ (pre .0), pre .1)
 
 add-t19 : tie.Need-add-t19
 add-t19 c =
-    let a = c .before .before .before .before .before .before .before .before .before .before .before .before .before .before .before .before .pre .0 in
-    let l = room _ _ _ a _ _ _ (made-for _ _ _ a _ _ _ (c .before .before .before .before .before .before .before .before .before .before .make .ensures)) (c .before .before .before .before .before .before .if1 .left) in
-    omega (arith, l, slice-size _ _ _ a)
-
-same-length-3 : tie.Need-same-length-3
-same-length-3 c = search needs
-
-same-length-4 : tie.Need-same-length-4
-same-length-4 c = search needs
+    let at = c .before .before .before .before .before .before .before .before .before .before in
+    let a = at .before .before .before .before .before .before .pre .0 in
+    omega (arith, room _ _ _ a _ _ _ (made-for _ _ _ a _ _ _ (at .make .ensures)) (c .before .before .before .before .before .before .if1 .left), slice-size _ _ _ a)
 
 returns-2 : tie.Need-returns-2
 returns-2 c =
-    let a = c .before .before .before .before .before .before .before .before .before .before .before .before .before .before .before .before .pre .0 in
-    does _ _ _ a _ _ _ _ (made-for _ _ _ a _ _ _ (c .before .before .before .before .before .before .before .before .before .before .make .ensures)) (c .before .before .before .before .before .before .if1 .left) (c .before .before .put .ensures)
+    let at = c .before .before .before .before .before .before .before .before .before .before in
+    let a = at .before .before .before .before .before .before .pre .0 in
+    does _ _ _ a _ _ _ _ (made-for _ _ _ a _ _ _ (at .make .ensures)) (c .before .before .before .before .before .before .if1 .left) (c .before .before .put .ensures)
 
 pub step-on-spec : {M : Type 1} → statement M
 step-on-spec =
     tie.close
-    (tie.spec
-    slice-reshare-prefix-make
-    slice-aggregate-make
-    make-requires
-    same-length
-    same-length-2
-    returns
-    cast-place
-    slice-reshare-prefix-put
-    slice-aggregate-put
-    put-requires
-    add-t19
-    same-length-3
-    same-length-4
-    returns-2)
+    (tie.spec slice-reshare-prefix-make slice-aggregate-make make-requires (λ c. search needs) (λ c. search needs) returns (λ c. search needs) slice-reshare-prefix-put
+    slice-aggregate-put put-requires add-t19 (λ c. search needs) (λ c. search needs) returns-2)

@@ -8,15 +8,6 @@ use Rattle.term.proofs.Lines.{arity-form, arity-fixed}
 use Rattle.term.proofs.heads.arity_of.Statement.{statement}
 use Rattle.term.proofs.heads.arity_of.Tie as tie
 
-cast-form-of : tie.Need-cast-form-of
-cast-form-of c = search needs
-
-form-of-requires : tie.Need-form-of-requires
-form-of-requires c κs = search needs
-
-cast-low : tie.Need-cast-low
-cast-low c = search needs
-
 returns : tie.Need-returns
 returns c = sym (arity-form _ _ 0 (c .before .form-of .ensures) (c .if1 .taken))
 
@@ -29,9 +20,6 @@ returns-3 c = sym (arity-form _ _ 2 (c .before .before .before .before .form-of 
 returns-4 : tie.Need-returns-4
 returns-4 c = sym (arity-form _ _ 2 (c .before .before .before .before .form-of .ensures) (c .before .if3 .taken) ∙ rw (ne-eqb _ _ (c .if4 .left)))
 
-sub-t8 : tie.Need-sub-t8
-sub-t8 c = search needs
-
 returns-5 : tie.Need-returns-5
 returns-5 c =
     let f : 3 ≤ c .before .before .before .before .form-of .result = omega arith in
@@ -43,16 +31,4 @@ returns-6 c =
     sym (arity-form _ _ _ (c .before .before .before .before .form-of .ensures) refl ∙ arity-fixed _ _ f ∙ rw (ne-eqb _ _ (c .if5 .left)))
 
 pub arity-of-spec : {M : Type 1} → statement M
-arity-of-spec =
-    tie.close
-    (tie.spec
-    cast-form-of
-    form-of-requires
-    cast-low
-    returns
-    returns-2
-    returns-3
-    returns-4
-    sub-t8
-    returns-5
-    returns-6)
+arity-of-spec = tie.close (tie.spec (search needs) (search needs) (search needs) returns returns-2 returns-3 returns-4 (search needs) returns-5 returns-6)

@@ -8,26 +8,14 @@ use Rattle.term.proofs.Lines.{child-line, second-line, counted-line, ot
 use Rattle.term.proofs.heads.child_class.Statement.{statement}
 use Rattle.term.proofs.heads.child_class.Tie as tie
 
-line-of-requires : tie.Need-line-of-requires
-line-of-requires c κs = search needs
-
-class-of-requires : tie.Need-class-of-requires
-class-of-requires c κs = search needs
-
 returns : tie.Need-returns
 returns c =
     let e = c .before .before .line-of .ensures in
     c .class-of .ensures ∙ child-line _ _ e ∙ sym (counted-line _ _ _ e (c .before .if1 .taken))
 
-class-of-requires-2 : tie.Need-class-of-requires-2
-class-of-requires-2 c κs = search needs
-
 returns-2 : tie.Need-returns-2
 returns-2 c =
     c .class-of2 .ensures ∙ child-line _ _ (c .before .before .before .line-of .ensures) ∙ ap (childOf _) (sym (c .before .if2 .taken))
-
-class-of-requires-3 : tie.Need-class-of-requires-3
-class-of-requires-3 c κs = search needs
 
 returns-3 : tie.Need-returns-3
 returns-3 c =
@@ -40,14 +28,4 @@ returns-4 c =
     sym (others-line _ _ _ (c .before .before .before .line-of .ensures) (c .before .before .if1 .left) k)
 
 pub child-class-spec : {M : Type 1} → statement M
-child-class-spec =
-    tie.close
-    (tie.spec
-    line-of-requires
-    class-of-requires
-    returns
-    class-of-requires-2
-    returns-2
-    class-of-requires-3
-    returns-3
-    returns-4)
+child-class-spec = tie.close (tie.spec (search needs) (search needs) returns (search needs) returns-2 (search needs) returns-3 returns-4)

@@ -9,21 +9,9 @@ use Rattle.term.proofs.Lines.{line-past, form-at}
 use Rattle.term.proofs.heads.form_of.Statement.{statement}
 use Rattle.term.proofs.heads.form_of.Tie as tie
 
-mul-result : tie.Need-mul-result
-mul-result c = search needs
-
-shr-result : tie.Need-shr-result
-shr-result c = search needs
-
 returns : tie.Need-returns
 unfolding allUpTo lineAt
 returns c = form-at _ 0 16 refl _ (c .before .args .head) (c .if1 .taken) (omega arith)
-
-mul-result-2 : tie.Need-mul-result-2
-mul-result-2 c = search needs
-
-shr-result-2 : tie.Need-shr-result-2
-shr-result-2 c = search needs
 
 returns-2 : tie.Need-returns-2
 unfolding allUpTo lineAt
@@ -33,4 +21,4 @@ returns-3 : tie.Need-returns-3
 returns-3 c = sym (ap (λ x. x / 4096) (line-past (c .before .before .args .head) (omega arith)))
 
 pub form-of-spec : {M : Type 1} → statement M
-form-of-spec = tie.close (tie.spec mul-result shr-result returns mul-result-2 shr-result-2 returns-2 returns-3)
+form-of-spec = tie.close (tie.spec (search needs) (search needs) returns (search needs) (search needs) returns-2 returns-3)

@@ -5,14 +5,8 @@ use Rattle.term.proofs.Lines.{result-line}
 use Rattle.term.proofs.heads.result_class.Statement.{statement}
 use Rattle.term.proofs.heads.result_class.Tie as tie
 
-line-of-requires : tie.Need-line-of-requires
-line-of-requires c κs = search needs
-
-class-of-requires : tie.Need-class-of-requires
-class-of-requires c κs = search needs
-
 returns : tie.Need-returns
 returns c = c .class-of .ensures ∙ result-line _ _ (c .before .line-of .ensures)
 
 pub result-class-spec : {M : Type 1} → statement M
-result-class-spec = tie.close (tie.spec line-of-requires class-of-requires returns)
+result-class-spec = tie.close (tie.spec (search needs) (search needs) returns)

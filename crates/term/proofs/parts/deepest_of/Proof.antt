@@ -19,20 +19,8 @@ loop-holds : tie.Need-loop-holds Inv-loop μ-loop
 unfolding deepestIn
 loop-holds c = (omega arith, refl)
 
-level-at-requires : tie.Need-level-at-requires Inv-loop μ-loop
-level-at-requires c κs = search needs
-
 add-larger : tie.Need-add-larger Inv-loop μ-loop
 add-larger c = omega (arith, level-few (c .before .before .before .before .args .part .now) (c .before .before .loop .k), c .level-at .ensures)
-
-larger-requires : tie.Need-larger-requires Inv-loop μ-loop
-larger-requires c κs = search needs
-
-add-k : tie.Need-add-k Inv-loop μ-loop
-add-k c = search needs
-
-loop-less : tie.Need-loop-less Inv-loop μ-loop
-loop-less c = search needs
 
 loop-again : tie.Need-loop-again Inv-loop μ-loop
 loop-again c = (omega arith, c .larger .ensures ∙ deepest-more _ _ _ _ (c .before .before .before .loop .inv .1) (c .before .level-at .ensures))
@@ -43,4 +31,4 @@ returns c =
     rw k at (c .before .loop .inv .1)
 
 pub deepest-of-spec : {M : Type 1} → statement M
-deepest-of-spec = tie.close (tie.spec Inv-loop μ-loop loop-holds level-at-requires add-larger larger-requires add-k loop-less loop-again returns)
+deepest-of-spec = tie.close (tie.spec Inv-loop μ-loop loop-holds (search needs) add-larger (search needs) (search needs) (search needs) loop-again returns)

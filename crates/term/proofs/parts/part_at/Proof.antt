@@ -9,17 +9,8 @@ use Rattle.term.proofs.Scan.{part-front, part-length, part-start, part-
 use Rattle.term.proofs.parts.part_at.Statement.{statement}
 use Rattle.term.proofs.parts.part_at.Tie as tie
 
-extent-at-requires : tie.Need-extent-at-requires
-extent-at-requires c κs = search needs
-
 mul-result : tie.Need-mul-result
 mul-result c = omega (arith, part-length (c .before .before .before .args .ws .now) (c .before .before .before .args .at))
-
-sub-result : tie.Need-sub-result
-sub-result c = search needs
-
-part-result-start : tie.Need-part-result-start
-part-result-start c = search needs
 
 part-result-end : tie.Need-part-result-end
 part-result-end c = omega (arith, part-length (c .before .before .before .args .ws .now) (c .before .before .before .args .at))
@@ -31,15 +22,6 @@ returns c =
     let n : found .result .end - args .at ≡ length (part (args .ws .now) (args .at)) = omega arith in
     record { same = rw n (sym (part-front (args .ws .now) (args .at))); depth = found .ensures .1; block = refl; offset = rw (part-start (args .ws .now) (args .at) (omega arith)) (search needs) }
 
-sub-result-2 : tie.Need-sub-result-2
-sub-result-2 c = search needs
-
-part-result-start-2 : tie.Need-part-result-start-2
-part-result-start-2 c = search needs
-
-part-result-end-2 : tie.Need-part-result-end-2
-part-result-end-2 c = search needs
-
 returns-2 : tie.Need-returns-2
 returns-2 c =
     let args = c .before .before .before .before .args in
@@ -47,16 +29,4 @@ returns-2 c =
     record { same = sym (e .1); depth = c .before .before .extent-at .ensures .1; block = refl; offset = rw (e .0) (search needs) }
 
 pub part-at-spec : {M : Type 1} → statement M
-part-at-spec =
-    tie.close
-    (tie.spec
-    extent-at-requires
-    mul-result
-    sub-result
-    part-result-start
-    part-result-end
-    returns
-    sub-result-2
-    part-result-start-2
-    part-result-end-2
-    returns-2)
+part-at-spec = tie.close (tie.spec (search needs) mul-result (search needs) (search needs) part-result-end returns (search needs) (search needs) (search needs) returns-2)

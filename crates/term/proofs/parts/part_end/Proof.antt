@@ -6,6 +6,7 @@ use borrow.Author.Needs.{needs}
 use lib.ListN.{length, drop}
 use Rattle.term.specs.Parts.{part, chop, parse}
 use Rattle.term.proofs.Scan.{endBy, end-begin, end-more, end-done, end-unknown, end-short, part-past, children-few}
+use Rattle.term.proofs.Rows.{end-leaves}
 use Rattle.term.proofs.parts.part_end.Statement.{statement}
 use Rattle.term.proofs.parts.part_end.Tie as tie
 
@@ -23,51 +24,39 @@ returns c =
 loop-holds : tie.Need-loop-holds Inv-loop μ-loop
 loop-holds c = (omega arith, end-begin _ _)
 
-sub-if2 : tie.Need-sub-if2 Inv-loop μ-loop
-sub-if2 c = search needs
-
 returns-2 : tie.Need-returns-2 Inv-loop μ-loop
 returns-2 c =
     let loop = c .before .before .loop in
     sym (loop .inv .1 ∙ end-short _ _ (loop .i) (loop .need) (c .if2 .taken))
-
-mul-arity-of : tie.Need-mul-arity-of Inv-loop μ-loop
-mul-arity-of c = search needs
-
-shared-slice-read-arity-of : tie.Need-shared-slice-read-arity-of Inv-loop μ-loop
-shared-slice-read-arity-of c = search needs
-
-arity-of-requires : tie.Need-arity-of-requires Inv-loop μ-loop
-arity-of-requires c κs = search needs
-
-enum-known-n : tie.Need-enum-known-n Inv-loop μ-loop
-enum-known-n c = search needs
-
-enum-told : tie.Need-enum-told Inv-loop μ-loop
-enum-told c = search needs
 
 returns-3 : tie.Need-returns-3 Inv-loop μ-loop
 returns-3 c =
     let loop = c .before .before .before .before .before .before .loop in
     sym (loop .inv .1 ∙ end-unknown _ _ (loop .i) (loop .need) (omega arith) (omega arith) (sym (c .before .before .arity-of .ensures) ∙ c .enum-told .given .1))
 
-sub-need : tie.Need-sub-need Inv-loop μ-loop
-sub-need c = search needs
-
-add-need : tie.Need-add-need Inv-loop μ-loop
-add-need c = omega (arith, children-few _ _ (sym (c .before .before .before .arity-of .ensures) ∙ c .before .n .given .1))
-
-add-i : tie.Need-add-i Inv-loop μ-loop
-add-i c = search needs
-
-loop-less : tie.Need-loop-less Inv-loop μ-loop
-loop-less c = search needs
-
 loop-again : tie.Need-loop-again Inv-loop μ-loop
 loop-again c =
-    let loop = c .before .before .before .before .before .before .before .loop in
-    let wanted = sym (c .before .before .before .arity-of .ensures) ∙ c .before .n .given .1 in
-    (omega arith, loop .inv .1 ∙ end-more _ _ (loop .i) (loop .need) _ (omega arith) (omega arith) wanted)
+    let read = c .before .before .before .before in
+    let loop = read .before .before .before .before .loop in
+    (omega arith, loop .inv .1 ∙ end-more _ _ (loop .i) (loop .need) _ (omega arith) (omega arith) (sym (read .arity-of .ensures) ∙ c .before .before .n .given .1))
+
+add-need-2 : tie.Need-add-need-2 Inv-loop μ-loop
+add-need-2 c = omega (arith, children-few _ _ (sym (c .before .before .before .before .before .arity-of .ensures) ∙ c .before .before .before .n .given .1))
+
+loop-again-2 : tie.Need-loop-again-2 Inv-loop μ-loop
+loop-again-2 c =
+    let read = c .before .before .before .before .before in
+    let loop = read .before .before .before .before .loop in
+    let args = read .before .before .before .before .before .before .before .args in
+    let ahead = c .leaves-ahead .ensures in
+    let r = c .leaves-ahead .result in
+    let n = c .before .before .before .n .given .0 .0 in
+    let wanted = sym (read .arity-of .ensures) ∙ c .before .before .before .n .given .1 in
+    let one = end-more (args .ws .now) (args .at) (loop .i) (loop .need) n (omega arith) (omega arith) wanted in
+    let more = end-leaves (args .ws .now) (args .at) (loop .i + 1) (loop .need - 1 + n) r (ahead .1) (omega (arith, ahead .0)) (ahead .2) in
+    let at : loop .i + 1 + r ≡ loop .i + (1 + r) = omega arith in
+    let still : loop .need - 1 + n - r ≡ loop .need - 1 + (n - r) = omega (arith, ahead .0) in
+    (omega (arith, ahead .1), loop .inv .1 ∙ one ∙ (rw (at, still) at more))
 
 returns-4 : tie.Need-returns-4 Inv-loop μ-loop
 returns-4 c =
@@ -76,24 +65,5 @@ returns-4 c =
     sym (loop .inv .1 ∙ (rw z (end-done _ _ _)))
 
 pub part-end-spec : {M : Type 1} → statement M
-part-end-spec =
-    tie.close
-    (tie.spec
-    Inv-loop
-    μ-loop
-    returns
-    loop-holds
-    sub-if2
-    returns-2
-    mul-arity-of
-    shared-slice-read-arity-of
-    arity-of-requires
-    enum-known-n
-    enum-told
-    returns-3
-    sub-need
-    add-need
-    add-i
-    loop-less
-    loop-again
-    returns-4)
+part-end-spec = tie.close (tie.spec Inv-loop μ-loop returns loop-holds (search needs) returns-2 (search needs) (search needs) (search needs) (search needs) (search needs) returns-3 (search needs)
+    (search needs) (search needs) (search needs) loop-again (search needs) (search needs) (search needs) (search needs) add-need-2 (search needs) (search needs) (search needs) loop-again-2 returns-4)

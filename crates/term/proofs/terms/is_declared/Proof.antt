@@ -5,25 +5,13 @@ use Rattle.term.specs.Terms.{declared}
 use Rattle.term.proofs.terms.is_declared.Statement.{statement}
 use Rattle.term.proofs.terms.is_declared.Tie as tie
 
-cast-name : tie.Need-cast-name
-cast-name c = search needs
-
-is-known-requires : tie.Need-is-known-requires
-is-known-requires c κs = search needs
-
 returns : tie.Need-returns
 unfolding declared
 returns c = rw (eq-eqb _ _ (c .before .if1 .taken)) (c .is-known .ensures)
 
-is-known-requires-2 : tie.Need-is-known-requires-2
-is-known-requires-2 c κs = search needs
-
 returns-2 : tie.Need-returns-2
 unfolding declared
 returns-2 c = rw (ne-eqb _ _ (c .before .before .if1 .left), eq-eqb _ _ (c .before .if2 .taken)) (c .is-known2 .ensures)
-
-is-known-requires-3 : tie.Need-is-known-requires-3
-is-known-requires-3 c κs = search needs
 
 returns-3 : tie.Need-returns-3
 unfolding declared
@@ -35,14 +23,4 @@ unfolding declared
 returns-4 c = rw (ne-eqb _ _ (c .before .before .if1 .left), ne-eqb _ _ (c .before .if2 .left), ne-eqb _ _ (c .if3 .left))
 
 pub is-declared-spec : {M : Type 1} → statement M
-is-declared-spec =
-    tie.close
-    (tie.spec
-    cast-name
-    is-known-requires
-    returns
-    is-known-requires-2
-    returns-2
-    is-known-requires-3
-    returns-3
-    returns-4)
+is-declared-spec = tie.close (tie.spec (search needs) (search needs) returns (search needs) returns-2 (search needs) returns-3 returns-4)

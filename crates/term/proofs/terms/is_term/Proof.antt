@@ -26,9 +26,6 @@ returns-3 c =
 slice-aggregate-term : tie.Need-slice-aggregate-term
 slice-aggregate-term c = sym (length-take-le _ _ (omega arith))
 
-part-at-requires : tie.Need-part-at-requires
-part-at-requires c κs = search needs
-
 returns-4 : tie.Need-returns-4
 returns-4 c =
     let args = c .before .before .before .before .before .before .before .before .args in
@@ -44,9 +41,6 @@ returns-5 c =
     let depth = c .before .before .part-at .ensures .depth in
     sym (term-in _ _ _ (omega arith) ∙ term-deep _ _ (omega arith) (omega arith) (omega arith) (omega arith))
 
-all-declared-requires : tie.Need-all-declared-requires
-all-declared-requires c κs = search needs
-
 returns-6 : tie.Need-returns-6
 returns-6 c =
     let args = c .before .before .before .before .before .before .before .before .before .before .args in
@@ -56,15 +50,4 @@ returns-6 c =
     c .all-declared .ensures ∙ sym (term-in _ _ _ (omega arith) ∙ term-names _ _ (omega arith) (omega arith) (omega arith) (omega arith))
 
 pub is-term-spec : {M : Type 1} → statement M
-is-term-spec =
-    tie.close
-    (tie.spec
-    returns
-    returns-2
-    returns-3
-    slice-aggregate-term
-    part-at-requires
-    returns-4
-    returns-5
-    all-declared-requires
-    returns-6)
+is-term-spec = tie.close (tie.spec returns returns-2 returns-3 slice-aggregate-term (search needs) returns-4 returns-5 (search needs) returns-6)

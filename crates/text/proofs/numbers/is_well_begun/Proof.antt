@@ -10,11 +10,8 @@ returns c = begun-none _ (c .if1 .taken)
 returns-2 : tie.Need-returns-2
 returns-2 c = begun-one _ (c .if2 .taken)
 
-shared-slice-read-result : tie.Need-shared-slice-read-result
-shared-slice-read-result c = search needs
-
 returns-3 : tie.Need-returns-3
 returns-3 c = begun-more _ (c .before .before .if1 .left) (c .before .if2 .left)
 
 pub is-well-begun-spec : {M : Type 1} → statement M
-is-well-begun-spec = tie.close (tie.spec returns returns-2 shared-slice-read-result returns-3)
+is-well-begun-spec = tie.close (tie.spec returns returns-2 (search needs) returns-3)

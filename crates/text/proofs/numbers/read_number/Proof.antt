@@ -17,38 +17,22 @@ Inv-loop text value₀ i₀ value i = (allDigits text ≡ allDigits (drop i text
 abbrev μ-loop : tie.MeasureT-loop
 μ-loop text value₀ i₀ value i = length text - i
 
-is-well-begun-requires : tie.Need-is-well-begun-requires Inv-loop μ-loop
-is-well-begun-requires c κs = search needs
-
 returns : tie.Need-returns Inv-loop μ-loop
 returns c = number-unbegun _ (sym (c .before .is-well-begun .ensures) ∙ not-true _ (c .if1 .taken))
 
 loop-holds : tie.Need-loop-holds Inv-loop μ-loop
 loop-holds c = (refl, (0, refl, refl))
 
-shared-slice-read-is-digit : tie.Need-shared-slice-read-is-digit Inv-loop μ-loop
-shared-slice-read-is-digit c = search needs
-
-is-digit-requires : tie.Need-is-digit-requires Inv-loop μ-loop
-is-digit-requires c κs = search needs
-
 returns-2 : tie.Need-returns-2 Inv-loop μ-loop
-returns-2 c = number-undigited _ (c .before .before .before .before .loop .inv .0 ∙ digit-fails _ (c .before .before .before .before .loop .i) (omega arith) (sym (c .before .is-digit .ensures) ∙ not-true _ (c .if2 .taken)))
-
-shared-slice-read-grown : tie.Need-shared-slice-read-grown Inv-loop μ-loop
-shared-slice-read-grown c = search needs
+returns-2 c =
+    let loop = c .before .before .before .before .loop in
+    number-undigited _ (loop .inv .0 ∙ digit-fails _ (loop .i) (omega arith) (sym (c .before .is-digit .ensures) ∙ not-true _ (c .if2 .taken)))
 
 grown-requires : tie.Need-grown-requires Inv-loop μ-loop
 grown-requires c κs =
     let e = c .before .before .before .before .before .loop .inv .1 .1 in
     let d = digit-is _ (sym (c .before .before .is-digit .ensures) ∙ not-false _ (c .before .if2 .left)) in
     (omega arith, d .0)
-
-add-i : tie.Need-add-i Inv-loop μ-loop
-add-i c = search needs
-
-loop-less : tie.Need-loop-less Inv-loop μ-loop
-loop-less c = search needs
 
 loop-again : tie.Need-loop-again Inv-loop μ-loop
 loop-again c =
@@ -63,23 +47,9 @@ returns-3 c =
     let inv = c .before .loop .inv in
     let i = c .before .loop .i in
     let end = c .loop-test .left in
-    rw (inv .1 .1) (number-value _ (sym (c .before .before .before .is-well-begun .ensures) ∙ not-false _ (c .before .before .if1 .left)) (inv .0 ∙ digit-end _ i end) (inv .1 .2 ∙ value-end _ i _ end))
+    let begun = sym (c .before .before .before .is-well-begun .ensures) ∙ not-false _ (c .before .before .if1 .left) in
+    rw (inv .1 .1) (number-value _ begun (inv .0 ∙ digit-end _ i end) (inv .1 .2 ∙ value-end _ i _ end))
 
 pub read-number-spec : {M : Type 1} → statement M
-read-number-spec =
-    tie.close
-    (tie.spec
-    Inv-loop
-    μ-loop
-    is-well-begun-requires
-    returns
-    loop-holds
-    shared-slice-read-is-digit
-    is-digit-requires
-    returns-2
-    shared-slice-read-grown
-    grown-requires
-    add-i
-    loop-less
-    loop-again
-    returns-3)
+read-number-spec = tie.close (tie.spec Inv-loop μ-loop (search needs) returns loop-holds (search needs) (search needs) returns-2 (search needs) grown-requires (search needs)
+    (search needs) loop-again returns-3)

@@ -19,18 +19,6 @@ abbrev μ-loop : tie.MeasureT-loop
 loop-holds : tie.Need-loop-holds Inv-loop μ-loop
 loop-holds c = (omega arith, refl)
 
-shared-slice-read-still-fine : tie.Need-shared-slice-read-still-fine Inv-loop μ-loop
-shared-slice-read-still-fine c = search needs
-
-still-fine-requires : tie.Need-still-fine-requires Inv-loop μ-loop
-still-fine-requires c κs = search needs
-
-add-i : tie.Need-add-i Inv-loop μ-loop
-add-i c = search needs
-
-loop-less : tie.Need-loop-less Inv-loop μ-loop
-loop-less c = search needs
-
 loop-again : tie.Need-loop-again Inv-loop μ-loop
 loop-again c =
     let loop = c .before .before .before .loop in
@@ -42,4 +30,4 @@ returns c =
     sym (loop .inv .1 ∙ fine-end (loop .fine) _ (loop .i) (omega arith))
 
 pub are-fine-spec : {M : Type 1} → statement M
-are-fine-spec = tie.close (tie.spec Inv-loop μ-loop loop-holds shared-slice-read-still-fine still-fine-requires add-i loop-less loop-again returns)
+are-fine-spec = tie.close (tie.spec Inv-loop μ-loop loop-holds (search needs) (search needs) (search needs) (search needs) loop-again returns)

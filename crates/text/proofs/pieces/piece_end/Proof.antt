@@ -8,11 +8,8 @@ use Rattle.text.proofs.pieces.piece_end.Tie as tie
 returns : tie.Need-returns
 returns c = end-past _ _ _ (c .if1 .taken)
 
-find-requires : tie.Need-find-requires
-find-requires c κs = search needs
-
 returns-2 : tie.Need-returns-2
 returns-2 c = c .find .ensures .0 ∙ end-found _ _ _
 
 pub piece-end-spec : {M : Type 1} → statement M
-piece-end-spec = tie.close (tie.spec returns find-requires returns-2)
+piece-end-spec = tie.close (tie.spec returns (search needs) returns-2)

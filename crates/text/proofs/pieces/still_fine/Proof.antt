@@ -10,9 +10,6 @@ returns : tie.Need-returns
 unfolding fine
 returns c = rw (eq-eqb _ 10 (c .if1 .taken))
 
-is-printable-requires : tie.Need-is-printable-requires
-is-printable-requires c κs = search needs
-
 returns-2 : tie.Need-returns-2
 unfolding fine
 returns-2 c = rw (ne-eqb _ 10 (c .before .before .if1 .left), sym (c .before .is-printable .ensures) ∙ c .if2 .taken)
@@ -22,4 +19,4 @@ unfolding fine
 returns-3 c = rw (ne-eqb _ 10 (c .before .before .if1 .left), sym (c .before .is-printable .ensures) ∙ c .if2 .left)
 
 pub still-fine-spec : {M : Type 1} → statement M
-still-fine-spec = tie.close (tie.spec returns is-printable-requires returns-2 returns-3)
+still-fine-spec = tie.close (tie.spec returns (search needs) returns-2 returns-3)

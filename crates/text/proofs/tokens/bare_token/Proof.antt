@@ -5,23 +5,13 @@ use borrow.Author.Needs.{needs}
 use Rattle.text.proofs.tokens.bare_token.Statement.{statement}
 use Rattle.text.proofs.tokens.bare_token.Tie as tie
 
-word-of-requires : tie.Need-word-of-requires
-word-of-requires c κs = search needs
-
-is-known-requires : tie.Need-is-known-requires
-is-known-requires c κs = search needs
-
 returns : tie.Need-returns
 unfolding toldToken
 returns c = rw (bare-carrying _ (found-known (c .before .is-known .ensures) (c .before .before .word-of .ensures) (c .if1 .taken)))
-
-word-of-requires-2 : tie.Need-word-of-requires-2
-word-of-requires-2 c κs = search needs
 
 returns-2 : tie.Need-returns-2
 unfolding toldToken
 returns-2 c = rw (bare-other _ (found-known (c .before .before .is-known .ensures) (c .before .before .before .word-of .ensures) (c .before .if1 .left)), c .word-of2 .ensures)
 
 pub bare-token-spec : {M : Type 1} → statement M
-bare-token-spec =
-    tie.close (tie.spec word-of-requires is-known-requires returns word-of-requires-2 returns-2)
+bare-token-spec = tie.close (tie.spec (search needs) (search needs) returns (search needs) returns-2)

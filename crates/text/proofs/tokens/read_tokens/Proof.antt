@@ -69,10 +69,10 @@ add-n : tie.Need-add-n Inv-loop μ-loop
 add-n c = search needs
 
 add-at : tie.Need-add-at Inv-loop μ-loop
-add-at c = let e = c .before .before .before .before .before .before .piece-end .ensures in let h = piece-within _ (c .before .before .before .before .before .before .before .before .loop .at) e (omega arith) in omega arith
+add-at c = let at = c .before .before .before .before .before .before in let h = piece-within _ (at .before .before .loop .at) (at .piece-end .ensures) (omega arith) in omega arith
 
 loop-less : tie.Need-loop-less Inv-loop μ-loop
-loop-less c = let e = c .before .before .before .before .before .before .piece-end .ensures in let h = piece-within _ (c .before .before .before .before .before .before .before .before .loop .at) e (omega arith) in omega arith
+loop-less c = let at = c .before .before .before .before .before .before in let h = piece-within _ (at .before .before .loop .at) (at .piece-end .ensures) (omega arith) in omega arith
 
 loop-again : tie.Need-loop-again Inv-loop μ-loop
 loop-again c =
@@ -100,23 +100,6 @@ pub read-tokens-spec : {M : Type 1} → statement M
 read-tokens-spec =
     tie.close
     (tie.spec
-    Inv-loop
-    μ-loop
-    loop-holds
-    piece-end-requires
-    sub-read-token
-    part-read-token-start
-    part-read-token-end
-    read-token-requires
-    enum-known-word
-    enum-told
-    same-length
-    returns
-    mul-out
-    slice-write-out
-    add-n
-    add-at
-    loop-less
-    loop-again
-    same-length-2
-    returns-2)
+    Inv-loop μ-loop loop-holds piece-end-requires sub-read-token part-read-token-start part-read-token-end
+    read-token-requires enum-known-word enum-told same-length returns mul-out slice-write-out add-n add-at loop-less
+    loop-again same-length-2 returns-2)

@@ -3,9 +3,6 @@ use Rattle.typing.specs.Code.Chains.{aroundOf}
 use Rattle.typing.proofs.bodies.bodies_of.Statement.{statement}
 use Rattle.typing.proofs.bodies.bodies_of.Tie as tie
 
-returns : tie.Need-returns
-unfolding aroundOf
-returns c = refl
-
 pub bodies-of-spec : {M : Type 1} → statement M
-bodies-of-spec = tie.close (tie.spec returns)
+unfolding aroundOf
+bodies-of-spec = tie.close (tie.spec (λ c. refl))

@@ -21,60 +21,13 @@ abbrev μ-loop : tie.MeasureT-loop
 long : (c : tie.At-loop Inv-loop μ-loop) → length (c .loop .stack) ≡ length (c .before .args .stack .now)
 long c = copied-long _ (c .before .args .from) (c .before .args .to) (c .loop .i) (omega arith) (omega arith) (c .loop .inv .1)
 
-loop-holds : tie.Need-loop-holds Inv-loop μ-loop
-loop-holds c = (omega arith, sym (laid-same _ (c .args .to) 0 0 (omega arith)))
-
-add-stack : tie.Need-add-stack Inv-loop μ-loop
-add-stack c = search needs
-
-mul-stack : tie.Need-mul-stack Inv-loop μ-loop
-mul-stack c = search needs
-
-slice-read-stack : tie.Need-slice-read-stack Inv-loop μ-loop
-slice-read-stack c = let at = c .before .before in omega (arith, long at)
-
-add-stack-2 : tie.Need-add-stack-2 Inv-loop μ-loop
-add-stack-2 c = search needs
-
-mul-stack-2 : tie.Need-mul-stack-2 Inv-loop μ-loop
-mul-stack-2 c = search needs
-
-slice-write-stack : tie.Need-slice-write-stack Inv-loop μ-loop
-slice-write-stack c = let at = c .before .before in omega (arith, long at)
-
-add-i : tie.Need-add-i Inv-loop μ-loop
-add-i c = search needs
-
-loop-less : tie.Need-loop-less Inv-loop μ-loop
-loop-less c = search needs
-
 loop-again : tie.Need-loop-again Inv-loop μ-loop
 loop-again c =
     let at = c .before .before in
     let t = c .before .loop-test .taken in
     (omega arith, copied-more _ (at .before .args .from) (at .before .args .to) (at .loop .i) (omega arith) (omega arith) (omega arith) (omega arith) (at .loop .inv .1))
 
-same-length : tie.Need-same-length Inv-loop μ-loop
-same-length c = long (c .before)
-
-returns : tie.Need-returns Inv-loop μ-loop
-returns c = let z : c .before .loop .i ≡ c .before .before .args .n = omega arith in c .before .loop .inv .1 ∙ rw z
-
 pub copy-up-spec : {M : Type 1} → statement M
-copy-up-spec =
-    tie.close
-    (tie.spec
-    Inv-loop
-    μ-loop
-    loop-holds
-    add-stack
-    mul-stack
-    slice-read-stack
-    add-stack-2
-    mul-stack-2
-    slice-write-stack
-    add-i
-    loop-less
-    loop-again
-    same-length
-    returns)
+copy-up-spec = tie.close (tie.spec Inv-loop μ-loop (λ c. (omega arith, sym (laid-same _ (c .args .to) 0 0 (omega arith)))) (search needs) (search needs)
+    (λ c. let at = c .before .before in omega (arith, long at)) (search needs) (search needs) (λ c. let at = c .before .before in omega (arith, long at)) (search needs) (search needs) loop-again
+    (λ c. long (c .before)) (λ c. let z : c .before .loop .i ≡ c .before .before .args .n = omega arith in c .before .loop .inv .1 ∙ rw z))

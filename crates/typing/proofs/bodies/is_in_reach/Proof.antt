@@ -4,13 +4,6 @@ use Rattle.typing.specs.Code.Chains.{inReach}
 use Rattle.typing.proofs.bodies.is_in_reach.Statement.{statement}
 use Rattle.typing.proofs.bodies.is_in_reach.Tie as tie
 
-returns : tie.Need-returns
-unfolding inReach
-returns c = rw (lt-ltb _ _ (c .if1 .taken))
-
-returns-2 : tie.Need-returns-2
-unfolding inReach
-returns-2 c = rw (le-ltb _ _ (c .if1 .left))
-
 pub is-in-reach-spec : {M : Type 1} → statement M
-is-in-reach-spec = tie.close (tie.spec returns returns-2)
+unfolding inReach
+is-in-reach-spec = tie.close (tie.spec (λ c. rw (lt-ltb _ _ (c .if1 .taken))) (λ c. rw (le-ltb _ _ (c .if1 .left))))

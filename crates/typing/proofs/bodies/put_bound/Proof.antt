@@ -15,40 +15,12 @@ near : (c : tie.Else1) → let a = c .before .before .before .before .args in in
 near c = rw (c .before .before .bodies-of .ensures) at (sym (c .before .is-in-reach .ensures) ∙ not-false _ (c .if1 .left))
 
 -- its index lies below the offset
-room : (c : tie.After-word-at) → let a = c .before .before .before .before .before .before .before .before .before .args in (c .before .before .record-at .result + 2 ≤ a .top) × (c .word-at .result ≤ c .before .before .record-at .result) × (c .word-at .result ≤ 63)
+room : (c : tie.After-word-at) → let at = c .before .before in
+    (at .record-at .result + 2 ≤ at .before .before .before .before .before .before .before .args .top) × (c .word-at .result ≤ at .record-at .result) × (c .word-at .result ≤ 63)
 room c =
     let at = c .before .before in
-    bound-room (at .before .before .before .before .before .before .before .pre .2 .1) _ (near (at .before .before .before)) (rw (at .before .inner-of .ensures) at (at .record-at .ensures)) (c .word-at .ensures)
-
-bodies-of-requires : tie.Need-bodies-of-requires
-bodies-of-requires c κs = search needs
-
-is-in-reach-requires : tie.Need-is-in-reach-requires
-is-in-reach-requires c κs = search needs
-
-returns : tie.Need-returns
-returns c = λ types x. bound-past x _ (rw (c .before .before .bodies-of .ensures) at (sym (c .before .is-in-reach .ensures) ∙ not-true _ (c .if1 .taken)))
-
-inner-of-requires : tie.Need-inner-of-requires
-inner-of-requires c κs = search needs
-
-record-at-requires : tie.Need-record-at-requires
-record-at-requires c κs = let h = c .before .before .before .before .before .before .pre in let l = chain-low (h .2 .1 .chain) in let e = c .inner-of .ensures in omega arith
-
-word-at-requires : tie.Need-word-at-requires
-word-at-requires c κs = search needs
-
-cast-n : tie.Need-cast-n
-cast-n c = search needs
-
-sub-copy-up : tie.Need-sub-copy-up
-sub-copy-up c = room (c .before) .1
-
-copy-up-requires : tie.Need-copy-up-requires
-copy-up-requires c κs = let h = c .before .before .before .before .before .before .before .before .before .before .pre in let r = room (c .before) in (omega arith, omega arith)
-
-same-length : tie.Need-same-length
-same-length c = search needs
+    bound-room (at .before .before .before .before .before .before .before .pre .2 .1) _ (near (at .before .before .before)) (rw (at .before .inner-of .ensures) at (at .record-at .ensures))
+    (c .word-at .ensures)
 
 returns-2 : tie.Need-returns-2
 returns-2 c =
@@ -60,17 +32,8 @@ returns-2 c =
     λ types x. bound-answers x _ less place (found .word-at .ensures) (start .pre .0) (c .before .before .copy-up .ensures)
 
 pub put-bound-spec : {M : Type 1} → statement M
-put-bound-spec =
-    tie.close
-    (tie.spec
-    bodies-of-requires
-    is-in-reach-requires
-    returns
-    inner-of-requires
-    record-at-requires
-    word-at-requires
-    cast-n
-    sub-copy-up
-    copy-up-requires
-    same-length
-    returns-2)
+put-bound-spec = tie.close (tie.spec (search needs) (search needs)
+    (λ c types x. bound-past x _ (rw (c .before .before .bodies-of .ensures) at (sym (c .before .is-in-reach .ensures) ∙ not-true _ (c .if1 .taken)))) (search needs)
+    (λ c κs. let h = c .before .before .before .before .before .before .pre in let l = chain-low (h .2 .1 .chain) in let e = c .inner-of .ensures in omega arith) (search needs) (search needs)
+    (λ c. room (c .before) .1) (λ c κs. let h = c .before .before .before .before .before .before .before .before .before .before .pre in let r = room (c .before) in (omega arith, omega arith))
+    (search needs) returns-2)

@@ -14,41 +14,7 @@ Inv-loop stack inner a at₀ i₀ at i = (i ≤ a) × (at ≤ 65535) × (linkAt 
 abbrev μ-loop : tie.MeasureT-loop
 μ-loop stack inner a at₀ i₀ at i = a - i
 
-loop-holds : tie.Need-loop-holds Inv-loop μ-loop
-loop-holds c = (omega arith, omega arith, link-start _ _ _)
-
-add-word-at : tie.Need-add-word-at Inv-loop μ-loop
-add-word-at c = search needs
-
-word-at-requires : tie.Need-word-at-requires Inv-loop μ-loop
-word-at-requires c κs = search needs
-
-cast-at : tie.Need-cast-at Inv-loop μ-loop
-cast-at c = search needs
-
-add-i : tie.Need-add-i Inv-loop μ-loop
-add-i c = search needs
-
-loop-less : tie.Need-loop-less Inv-loop μ-loop
-loop-less c = search needs
-
-loop-again : tie.Need-loop-again Inv-loop μ-loop
-loop-again c = let t = c .before .loop-test .taken in (omega arith, search needs, link-more _ _ _ _ t (c .before .before .loop .inv .2) (c .word-at .ensures))
-
-returns : tie.Need-returns Inv-loop μ-loop
-returns c = link-end _ _ _ _ (c .loop-test .left) (c .before .loop .inv .2)
-
 pub record-at-spec : {M : Type 1} → statement M
-record-at-spec =
-    tie.close
-    (tie.spec
-    Inv-loop
-    μ-loop
-    loop-holds
-    add-word-at
-    word-at-requires
-    cast-at
-    add-i
-    loop-less
-    loop-again
-    returns)
+record-at-spec = tie.close (tie.spec Inv-loop μ-loop (λ c. (omega arith, omega arith, link-start _ _ _)) (search needs) (search needs) (search needs) (search needs) (search needs)
+    (λ c. let t = c .before .loop-test .taken in (omega arith, search needs, link-more _ _ _ _ t (c .before .before .loop .inv .2) (c .word-at .ensures)))
+    (λ c. link-end _ _ _ _ (c .loop-test .left) (c .before .loop .inv .2)))

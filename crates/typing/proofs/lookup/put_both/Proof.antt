@@ -5,18 +5,6 @@ use Rattle.typing.proofs.Putting.{both-put}
 use Rattle.typing.proofs.lookup.put_both.Statement.{statement}
 use Rattle.typing.proofs.lookup.put_both.Tie as tie
 
-put-words-requires : tie.Need-put-words-requires
-put-words-requires c κs = let h = c .before .before .before .pre in (h .0, omega arith)
-
-add-put-words : tie.Need-add-put-words
-add-put-words c = search needs
-
-put-words-requires-2 : tie.Need-put-words-requires-2
-put-words-requires-2 c κs = search needs
-
-same-length : tie.Need-same-length
-same-length c = search needs
-
 returns : tie.Need-returns
 returns c =
     let first = c .before .before .before .before .before .before .before in
@@ -26,4 +14,4 @@ returns c =
     both-put (args .ds .now) (args .left) (args .right) (h .0, h .1, h .2, h .3) (args .top) (args .stack .now) (h .4) (first .put-words .ensures) (c .before .before .put-words2 .ensures)
 
 pub put-both-spec : {M : Type 1} → statement M
-put-both-spec = tie.close (tie.spec put-words-requires add-put-words put-words-requires-2 same-length returns)
+put-both-spec = tie.close (tie.spec (λ c κs. let h = c .before .before .before .pre in (h .0, omega arith)) (search needs) (search needs) (search needs) returns)

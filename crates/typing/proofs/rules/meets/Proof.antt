@@ -8,16 +8,6 @@ use Rattle.typing.proofs.Concluding.{placed, met-run}
 use Rattle.typing.proofs.rules.meets.Statement.{statement}
 use Rattle.typing.proofs.rules.meets.Tie as tie
 
-returns : tie.Need-returns
-unfolding met
-returns c = rw (c .if1 .taken)
-
-piece-requires : tie.Need-piece-requires
-piece-requires c κs = search needs
-
-piece-requires-2 : tie.Need-piece-requires-2
-piece-requires-2 c κs = search needs
-
 same-runs-requires : tie.Need-same-runs-requires
 same-runs-requires c κs =
     let start = c .before .before .before .before .before in
@@ -27,21 +17,8 @@ returns-2 : tie.Need-returns-2
 returns-2 c =
     let start = c .before .before .before .before .before .before in
     let t = start .args .test in
-    rw (c .before .before .piece .ensures, c .before .piece2 .ensures, placed (start .pre) t .is) at (c .same-runs .ensures) ∙ sym (met-run t _ _ _ (c .before .before .before .before .if1 .left) (c .before .before .before .if2 .taken))
-
-returns-3 : tie.Need-returns-3
-unfolding met
-returns-3 c = rw (c .if3 .taken)
-
-number-requires : tie.Need-number-requires
-number-requires c κs = search needs
-
-number-requires-2 : tie.Need-number-requires-2
-number-requires-2 c κs = search needs
-
-returns-4 : tie.Need-returns-4
-unfolding met
-returns-4 c = rw (c .before .before .before .before .if4 .taken, c .before .number .ensures, c .number2 .ensures)
+    rw (c .before .before .piece .ensures, c .before .piece2 .ensures, placed (start .pre) t .is) at (c .same-runs .ensures)
+    ∙ sym (met-run t _ _ _ (c .before .before .before .before .if1 .left) (c .before .before .before .if2 .taken))
 
 returns-5 : tie.Need-returns-5
 unfolding met
@@ -50,16 +27,6 @@ returns-5 c =
     rw (ne-eqb t 1 (λ z. omega arith), ne-eqb t 2 (λ z. omega arith), ne-eqb t 3 (c .before .if3 .left), ne-eqb t 5 (c .if4 .left))
 
 pub meets-spec : {M : Type 1} → statement M
-meets-spec =
-    tie.close
-    (tie.spec
-    returns
-    piece-requires
-    piece-requires-2
-    same-runs-requires
-    returns-2
-    returns-3
-    number-requires
-    number-requires-2
-    returns-4
-    returns-5)
+unfolding met
+meets-spec = tie.close (tie.spec (λ c. rw (c .if1 .taken)) (search needs) (search needs) same-runs-requires returns-2 (λ c. rw (c .if3 .taken)) (search needs) (search needs)
+    (λ c. rw (c .before .before .before .before .if4 .taken, c .before .number .ensures, c .number2 .ensures)) returns-5)

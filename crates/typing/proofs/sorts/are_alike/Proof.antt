@@ -8,16 +8,6 @@ use Rattle.typing.proofs.Lying.{other-lengths, both-same}
 use Rattle.typing.proofs.sorts.are_alike.Statement.{statement}
 use Rattle.typing.proofs.sorts.are_alike.Tie as tie
 
-number-requires : tie.Need-number-requires
-number-requires c κs = search needs
-
-number-requires-2 : tie.Need-number-requires-2
-number-requires-2 c κs = search needs
-
-returns : tie.Need-returns
-unfolding alikeTo
-returns c = rw (← c .before .before .number .ensures, ← c .before .number2 .ensures, ne-eqb _ _ (c .if1 .taken))
-
 returns-2 : tie.Need-returns-2
 unfolding alikeTo
 returns-2 c =
@@ -25,31 +15,15 @@ returns-2 c =
     let start = e .before .before .before .before in
     rw (← e .before .before .number .ensures, ← e .before .number2 .ensures, eq-eqb _ _ (e .if1 .left)) (other-lengths _ _ _ (start .args .a) (start .args .b) (start .pre) (c .if2 .taken))
 
-add-t11 : tie.Need-add-t11
-add-t11 c = search needs
-
-add-t13 : tie.Need-add-t13
-add-t13 c = search needs
-
-same-runs-requires : tie.Need-same-runs-requires
-same-runs-requires c κs = (omega arith, omega arith)
-
 returns-3 : tie.Need-returns-3
 unfolding alikeTo
 returns-3 c =
     let e = c .before .before .before .before .before .before in
     let start = e .before .before .before .before in
-    rw (← e .before .before .number .ensures, ← e .before .number2 .ensures, eq-eqb _ _ (e .if1 .left)) (c .same-runs .ensures ∙ both-same _ _ _ (start .args .a) (start .args .b) (start .pre) (c .before .before .before .if2 .left))
+    rw (← e .before .before .number .ensures, ← e .before .number2 .ensures, eq-eqb _ _ (e .if1 .left))
+    (c .same-runs .ensures ∙ both-same _ _ _ (start .args .a) (start .args .b) (start .pre) (c .before .before .before .if2 .left))
 
 pub are-alike-spec : {M : Type 1} → statement M
-are-alike-spec =
-    tie.close
-    (tie.spec
-    number-requires
-    number-requires-2
-    returns
-    returns-2
-    add-t11
-    add-t13
-    same-runs-requires
-    returns-3)
+unfolding alikeTo
+are-alike-spec = tie.close (tie.spec (search needs) (search needs) (λ c. rw (← c .before .before .number .ensures, ← c .before .number2 .ensures, ne-eqb _ _ (c .if1 .taken))) returns-2
+    (search needs) (search needs) (λ c κs. (omega arith, omega arith)) returns-3)

@@ -10,29 +10,13 @@ use Rattle.typing.proofs.Deciding.{within}
 use Rattle.typing.proofs.terms.type_term.Statement.{statement}
 use Rattle.typing.proofs.terms.type_term.Tie as tie
 
-refused-with-requires : tie.Need-refused-with-requires
-refused-with-requires c κs = search needs
-
-returns : tie.Need-returns
-returns c = c .refused-with .ensures ∙ sym (wrong-size _ _ _ (c .before .if1 .taken))
-
-are-good-requires : tie.Need-are-good-requires
-are-good-requires c κs = search needs
-
-refused-with-requires-2 : tie.Need-refused-with-requires-2
-refused-with-requires-2 c κs = search needs
-
 returns-2 : tie.Need-returns-2
 returns-2 c = c .refused-with2 .ensures ∙ sym (bad-declarations _ _ _ (c .before .before .before .if1 .left) (sym (c .before .before .are-good .ensures) ∙ not-true _ (c .before .if2 .taken)))
 
-refused-with-requires-3 : tie.Need-refused-with-requires-3
-refused-with-requires-3 c κs = search needs
-
 returns-3 : tie.Need-returns-3
-returns-3 c = c .refused-with3 .ensures ∙ sym (no-term _ _ _ (c .before .before .before .before .if1 .left) (sym (c .before .before .before .are-good .ensures) ∙ not-false _ (c .before .before .if2 .left)) (term-past _ _ _ (omega arith)))
-
-slice-aggregate-typed-in : tie.Need-slice-aggregate-typed-in
-slice-aggregate-typed-in c = sym (length-take-le _ _ (omega arith))
+returns-3 c =
+    let e = c .before .before in
+    c .refused-with3 .ensures ∙ sym (no-term _ _ _ (e .before .before .if1 .left) (sym (e .before .are-good .ensures) ∙ not-false _ (e .if2 .left)) (term-past _ _ _ (omega arith)))
 
 typed-in-requires : tie.Need-typed-in-requires
 typed-in-requires c κs =
@@ -46,16 +30,5 @@ returns-4 c =
     c .typed-in .ensures ∙ within _ _ _ (e .before .before .if1 .left) (sym (e .before .are-good .ensures) ∙ not-false _ (e .if2 .left)) (omega arith)
 
 pub type-term-spec : {M : Type 1} → statement M
-type-term-spec =
-    tie.close
-    (tie.spec
-    refused-with-requires
-    returns
-    are-good-requires
-    refused-with-requires-2
-    returns-2
-    refused-with-requires-3
-    returns-3
-    slice-aggregate-typed-in
-    typed-in-requires
-    returns-4)
+type-term-spec = tie.close (tie.spec (search needs) (λ c. c .refused-with .ensures ∙ sym (wrong-size _ _ _ (c .before .if1 .taken))) (search needs) (search needs) returns-2 (search needs)
+    returns-3 (λ c. sym (length-take-le _ _ (omega arith))) typed-in-requires returns-4)

@@ -1,0 +1,2 @@
+-- How the code does it: nothing here is needed to read the promises.
+pub mod Entries
