@@ -106,7 +106,8 @@ impl Gen {
                     now = term;
                     steps.push(step);
                 }
-                None if moves.iter().any(|step| step.rule == 170) => {}
+                // An exchange keeps the length, so one is found in the end where the term is not too large already.
+                None if now.len() <= LARGEST && moves.iter().any(|step| step.rule == 170) => {}
                 None => return None,
             }
         }

@@ -64,7 +64,7 @@ at-child {u} c make z k (there b t a q n) e = rw q (k b t a u (cond-some c (make
 
 -- what is removed, absorbed, merged or exchanged leaves the part no deeper
 pub no-deeper : (rule : Rule) → mayDeepen (some rule) ≡ false → (Γ : Context) (i j : ℕ) (t u : Tree) → rewrite Γ rule i j t ≡ some u → depth u ≤ depth t
-unfolding mayDeepen deepensIn familyNumber rowFor rewrite removeAt absorbAt mergeAt swapAt depth
+unfolding mayDeepen deepensIn familyNumber rewrite removeAt absorbAt mergeAt swapAt depth
 no-deeper (k ⇒ l ▷ r) h Γ i j t u e = true-false h
 no-deeper (spreading l w s r) h Γ i j t u e = true-false h
 no-deeper (removing l c) h Γ i j (node m f) u e = at-child (eqb j 0 && isHead l m (count f)) (removeAt l c) refl (removed l c) (at f i) e
@@ -76,7 +76,7 @@ no-deeper distributing h Γ i j t u e = true-false h
 
 -- an exchange leaves it as deep as it was
 pub same-depth : (rule : Rule) → keepsDepth (some rule) ≡ true → {Γ : Context} {i j : ℕ} {t u : Tree} → Instance Γ rule i j t u → depth u ≡ depth t
-unfolding keepsDepth familyNumber rowFor depth
+unfolding keepsDepth familyNumber depth
 same-depth swapping h (swaps b a t u l) = omega (arith, depth*-⧺ b (t ▹ u ▹ a), depth*-⧺ b (u ▹ t ▹ a))
 same-depth (k ⇒ l ▷ r) h x = true-false (sym h)
 same-depth (spreading l w s r) h x = true-false (sym h)

@@ -112,7 +112,7 @@ pub record Ruled (row : Row) (n : ℕ) : Type 0 where
 
 module _ (n : ℕ) (row : Row) (e : row ≡ rowOf n) where
   ruled-by : row .family ≢ 0 → (o : Option Rule) → ruleOf n ≡ o → Ruled row n
-  unfolding familyNumber rowFor
+  unfolding familyNumber
   ruled-by h none f = absurd (h (family-is n row e ∙ ap familyNumber f))
   ruled-by h (some r) f = record { rule = r; is = f; lines = lined n r row f e }
 

@@ -10,17 +10,23 @@ use Rattle.words.specs.Words.{Added}
 use Rattle.term.specs.Trees.{Tree, Forest, none as no-tree, _▹_, words}
 use Rattle.term.specs.Parts.{parse, part, partDepth}
 use Rattle.types.specs.Sorts.{Context}
-use Rattle.rules.specs.Table.{Rule, ruleOf}
+use Rattle.rules.specs.Table.{Rule, _⇒_▷_, spreading, removing, absorbing, merging, collecting, swapping, distributing, ruleOf}
 use Rattle.rules.specs.Rewrite.{rewrite}
 use Rattle.rules.specs.Steps.{few}
-use Rattle.rulebook.specs.Code.Rows.{rowFor}
 use Rattle.families.specs.declared.writing.Rewritten.{Rewritten}
 use Rattle.families.specs.declared.writing.Replaced.{Replaced}
 
--- the number of a rule's family, as its row has it: 0 for no rule
+-- the families by number: 0 for no rule, 1 for an equation
 unfoldable pub familyNumber : Option Rule → ℕ
-unfolding rowFor
-familyNumber o = rowFor 0 o .family
+familyNumber none = 0
+familyNumber (some (k ⇒ l ▷ r)) = 1
+familyNumber (some (spreading l w s r)) = 2
+familyNumber (some (removing l c)) = 3
+familyNumber (some absorbing) = 4
+familyNumber (some merging) = 5
+familyNumber (some (collecting u v)) = 6
+familyNumber (some swapping) = 7
+familyNumber (some distributing) = 8
 
 -- every rule but an equation is a family's
 unfoldable pub isFamily : Rule → Bool

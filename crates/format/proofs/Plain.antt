@@ -6,7 +6,7 @@ use Prim.Native.Nat.{ℕ, _+_, _/_, _%_}
 use native.Mathlib.Omega.{arith}
 use borrow.Author.Tests.{leb-true, le-leb, ne-eqb}
 use lib.Dec.{eqb, leb}
-use Rattle.words.specs.Listed.{lacks}
+use Rattle.words.specs.Listed.{lacks, all}
 use Rattle.term.specs.declared.parts.Side.{Side}
 use Rattle.term.specs.declared.parts.Side.the-variants.{Left, Right}
 use Rattle.rules.specs.Steps.{Move}
@@ -33,7 +33,7 @@ plain-append (b ∷ p) r h k = let q = and-eq-true-iff (printable b) (plain p) .
 
 -- ---- what is written
 digits-plain : (p : Text) → allDigits p ≡ true → plain p ≡ true
-unfolding plain allDigits
+unfolding plain all
 digits-plain [] h = refl
 digits-plain (b ∷ p) h =
     let q = and-eq-true-iff (isDigit b) (allDigits p) .0 h in

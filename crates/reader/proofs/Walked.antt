@@ -29,7 +29,7 @@ use Rattle.reader.specs.declared.walking.State.{State}
 use Rattle.reader.specs.declared.walking.Taken.{Taken}
 use Rattle.reader.specs.Answers.{readRefusal, answerOf}
 use Rattle.reader.specs.Code.Lines.{Answers}
-use Rattle.reader.specs.Code.Holding.{Holding, After, Lined, endedIn, Sizes, Found}
+use Rattle.reader.specs.Code.Holding.{Holding, After, LineRead, endedIn, Sizes, Found}
 use Rattle.reader.proofs.Held.{stage-few, few-steps-at}
 
 -- from the offset `at` on, in line `line`, with what the slices hold
@@ -195,7 +195,7 @@ module _ {bytes : Text} {at line : ℕ} {over : Bool} {s : State} {ds ls rs ms :
     pub line-at : Next bytes at p (h .rest .lines)
     line-at = next (h .rest) (leb-false (length bytes) at (sym (h .over-is) ∙ not-true over going)) e
 
-    module _ {r : Taken} {es ks qs ns : List ℕ} (told : Lined (take (p .end - at) (drop at bytes)) line s ds ls rs ms r es ks qs ns) where
+    module _ {r : Taken} {es ks qs ns : List ℕ} (told : LineRead (take (p .end - at) (drop at bytes)) line s ds ls rs ms r es ks qs ns) where
       sizes-kept : Sizes es ks qs ns
       sizes-kept = (told .0 ∙ h .sizes .0, told .1 ∙ h .sizes .1, told .2 ∙ h .sizes .2, told .3 ∙ h .sizes .3)
 

@@ -15,7 +15,7 @@ ghost use mathlib.Core.Bool.{cond};
 ghost use Prim.Native.Nat.{_≤_};
 ghost use lib.Dec.{eqb};
 ghost use lib.ListN.{length};
-ghost use Rattle.reader.specs.Code.Holding.{stateAfter, ValuedIn, Lined};
+ghost use Rattle.reader.specs.Code.Holding.{stateAfter, ValuedIn, LineRead};
 
 // What was read so far: the stage, the lengths of the two terms, and how many steps there are. The stages are those of `format` Reading: 0 before the types, 1 among the
 // bases, 2 among the variables, 3 behind the left side, 4 among the steps, 5 at the end.
@@ -91,7 +91,7 @@ pub fn take_line(
     ms: &mut [u16],
 ) -> Taken
     requires { ⌜ (length (now ds) ≡ 6179) × (length (now ls) ≡ 4096) × (length (now rs) ≡ 4096) × (s .steps ≤ 1000) × (s .stage ≤ 5) ⌝ }
-    ensures { λ r. ⌜ Lined (now (text .entry)) line s (now (ds .entry)) (now (ls .entry)) (now (rs .entry)) (now (ms .entry)) r (now (ds .exit)) (now (ls .exit)) (now (rs .exit)) (now (ms .exit)) ⌝ }
+    ensures { λ r. ⌜ LineRead (now (text .entry)) line s (now (ds .entry)) (now (ls .entry)) (now (rs .entry)) (now (ms .entry)) r (now (ds .exit)) (now (ls .exit)) (now (rs .exit)) (now (ms .exit)) ⌝ }
 {
     let k = key_of(text);
     if !is_next(k, s.stage) {

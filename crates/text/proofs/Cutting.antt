@@ -9,7 +9,7 @@ use lib.ListN.{length, take, drop, length-append}
 use lib.Seq.{take-append-seam, drop-append-add}
 use borrow.Author.Tests.{eqb-true, eqb-false, eq-eqb, ne-eqb, not-true}
 use Rattle.bytes.specs.Bytes.{indexOf, indexAfter}
-use Rattle.words.specs.Listed.{lacks}
+use Rattle.words.specs.Listed.{lacks, all}
 use Rattle.text.specs.Bytes.{lineFeed, printable, badLine}
 use Rattle.text.specs.Pieces.{Text, push, pieces, parted, linesOf, ended}
 use Rattle.text.specs.Numbers.{isDigit, allDigits}
@@ -33,7 +33,7 @@ lacks-append b [] r h k = k
 lacks-append b (x ∷ p) r h k = rw (lacks-head b x p h) (lacks-append b p r (lacks-tail b x p h) k)
 
 pub digits-lack : (b : ℕ) (p : Text) → isDigit b ≡ false → allDigits p ≡ true → lacks b p ≡ true
-unfolding lacks allDigits
+unfolding lacks all
 digits-lack b [] d h = refl
 digits-lack b (x ∷ p) d h =
     let r = and-eq-true-iff (isDigit x) (allDigits p) .0 h in

@@ -8,6 +8,7 @@ use native.Mathlib.Omega.{arith}
 use lib.Dec.{eqb, leb, ltb}
 use lib.Seq.{append-snoc}
 use borrow.Author.Tests.{ltb-true, ltb-false, leb-true, eqb-false, not-true, lt-ltb, le-ltb, le-leb, ne-eqb}
+use Rattle.words.specs.Listed.{all}
 use Rattle.text.specs.Numbers.{isDigit, allDigits, valueFrom, wellBegun, isNumber, numberIn, digitsBy, decimal}
 
 -- ---- the texts of numbers: one digit, or one more behind the text of a number that is not 0
@@ -48,7 +49,7 @@ text-value (one b e v) cs = rw v
 text-value (more b r p e v) cs = rw (append-snoc, text-value r (b ∷ cs), v)
 
 text-digits : {bs : List ℕ} {n : ℕ} → Text bs n → (cs : List ℕ) → allDigits (bs ++ cs) ≡ allDigits cs
-unfolding allDigits
+unfolding all
 text-digits (one b e v) cs = rw e
 text-digits (more b r p e v) cs = rw (append-snoc, text-digits r (b ∷ cs), e)
 
@@ -72,7 +73,7 @@ text-in {bs} {n} r =
 
 -- ---- and nothing else is read
 grown : (bs : List ℕ) {cs : List ℕ} {n : ℕ} → Text cs n → 0 < n → allDigits bs ≡ true → Text (cs ++ bs) (valueFrom n bs)
-unfolding allDigits valueFrom
+unfolding all valueFrom
 grown [] r p e = rw append-nil r
 grown (b ∷ bs) r p e = let t = and-eq-true-iff (isDigit b) (allDigits bs) .0 e in rw append-snoc at (grown bs (more b r p (t .0) refl) (omega arith) (t .1))
 
@@ -103,7 +104,7 @@ unfolding decimal
 decimal-number bs n e = only-written (number-in bs n e) (suc n) (omega arith)
 
 pub number-digits : (bs : List ℕ) (n : ℕ) → numberIn bs ≡ some n → allDigits bs ≡ true
-unfolding allDigits
+unfolding all
 number-digits bs n e = rw append-nil at (text-digits (number-in bs n e) [])
 
 pub decimal-digits : (n : ℕ) → allDigits (decimal n) ≡ true

@@ -11,6 +11,7 @@ use borrow.Author.Tests.{eq-eqb, ne-eqb}
 use lib.Dec.{eqb}
 use lib.ListN.{length, drop, getD, drop-of-length-le}
 use lib.Seq.{drop-cons, take-all}
+use Rattle.words.specs.Listed.{all}
 use Rattle.bytes.specs.Bytes.{indexOf, slice}
 use Rattle.text.specs.declared.numbers.Number.the-variants.{Value, Malformed}
 use Rattle.text.specs.Bytes.{lineFeed, printable, fine, allFine, badLine}
@@ -37,7 +38,7 @@ module _ (n : ℕ) (e : Bool) (s : List ℕ) (i : ℕ) where
 
 -- ---- no bad byte
 pub fine-more : (so : Bool) (s : List ℕ) (i : ℕ) → i < length s → (so && allFine (drop i s)) ≡ ((fine (getD s i 0) && so) && allFine (drop (i + 1) s))
-unfolding allFine
+unfolding all
 fine-more so s i h = rw (drop-cons s i 0 h, add-one i) (turned so (fine (getD s i 0)) (allFine (drop (suc i) s)))
   where
     turned : (a b c : Bool) → (a && (b && c)) ≡ ((b && a) && c)
@@ -47,7 +48,7 @@ fine-more so s i h = rw (drop-cons s i 0 h, add-one i) (turned so (fine (getD s 
     turned false false c = refl
 
 pub fine-end : (so : Bool) (s : List ℕ) (i : ℕ) → length s ≤ i → (so && allFine (drop i s)) ≡ so
-unfolding allFine
+unfolding all
 fine-end true s i h = rw (drop-of-length-le s h)
 fine-end false s i h = refl
 
@@ -62,7 +63,7 @@ last-feed e b [] h = eq-eqb b 10 h
 last-feed e b (c ∷ s) h = last-feed (eqb b lineFeed) c s h
 
 fine-zero : (s : List ℕ) (n : ℕ) (e : Bool) → allFine s ≡ true → lastFeed e s ≡ true → badLine n e s ≡ 0
-unfolding allFine fine lastFeed badLine
+unfolding all fine lastFeed badLine
 fine-zero [] n e h f = rw f
 fine-zero (b ∷ s) n e h f =
     let both = and-eq-true-iff (eqb b lineFeed || printable b) (allFine s) .0 h in
@@ -147,18 +148,6 @@ module _ (s : List ℕ) where
   number-value e f g = rw (e, f, g)
 
   module _ (i : ℕ) where
-    pub digit-more : i < length s → isDigit (getD s i 0) ≡ true → allDigits (drop i s) ≡ allDigits (drop (i + 1) s)
-    unfolding allDigits
-    digit-more h e = rw (drop-cons s i 0 h, e, add-one i)
-
-    pub digit-fails : i < length s → isDigit (getD s i 0) ≡ false → allDigits (drop i s) ≡ false
-    unfolding allDigits
-    digit-fails h e = rw (drop-cons s i 0 h, e)
-
-    pub digit-end : length s ≤ i → allDigits (drop i s) ≡ true
-    unfolding allDigits
-    digit-end h = rw (drop-of-length-le s h)
-
     pub value-more : (n : ℕ) → i < length s → valueFrom n (drop i s) ≡ valueFrom (n * 10 + (getD s i 0 - 48)) (drop (i + 1) s)
     unfolding valueFrom
     value-more n h = rw (drop-cons s i 0 h, add-one i)

@@ -3,6 +3,7 @@ use mathlib.Core.Bool.{Bool, true, false, cond, _&&_, _||_}
 use mathlib.Core.List.{List, [], _∷_}
 use Prim.Native.Nat.{ℕ, _+_}
 use lib.Dec.{eqb, leb}
+use Rattle.words.specs.Listed.{all}
 
 abbrev pub lineFeed : ℕ
 lineFeed = 10
@@ -15,9 +16,8 @@ unfoldable pub fine : ℕ → Bool
 unfolding printable
 fine b = eqb b lineFeed || printable b
 
-unfoldable pub allFine : List ℕ → Bool
-allFine [] = true
-allFine (b ∷ bs) = fine b && allFine bs
+abbrev pub allFine : List ℕ → Bool
+allFine bs = all fine bs
 
 -- The line of the first fault, or 0 where there is none. The bytes begin in line n, and `ended` says whether a LF stands straight before them. "the first bad byte comes before a
 -- missing last LF, whose line is the unfinished one (1 when empty)"

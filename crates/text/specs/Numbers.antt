@@ -5,6 +5,7 @@ use mathlib.Core.List.{List, [], _∷_, _++_}
 use mathlib.Core.Option.{Option, some, none}
 use Prim.Native.Nat.{ℕ, zero, suc, _+_, _-_, _*_, _/_, _%_, min}
 use lib.Dec.{eqb, leb, ltb}
+use Rattle.words.specs.Listed.{all}
 use Rattle.text.specs.declared.numbers.Number.{Number}
 use Rattle.text.specs.declared.numbers.Number.the-variants.{Value, Malformed}
 
@@ -12,10 +13,8 @@ use Rattle.text.specs.declared.numbers.Number.the-variants.{Value, Malfo
 unfoldable pub isDigit : ℕ → Bool
 isDigit b = leb 48 b && leb b 57
 
-unfoldable pub allDigits : List ℕ → Bool
-unfolding isDigit
-allDigits [] = true
-allDigits (b ∷ bs) = isDigit b && allDigits bs
+abbrev pub allDigits : List ℕ → Bool
+allDigits bs = all isDigit bs
 
 unfoldable pub valueFrom : ℕ → List ℕ → ℕ
 valueFrom n [] = n
@@ -28,7 +27,7 @@ wellBegun (b ∷ []) = true
 wellBegun (b ∷ c ∷ bs) = not (eqb b 48)
 
 unfoldable pub isNumber : List ℕ → Bool
-unfolding wellBegun allDigits
+unfolding wellBegun isDigit all
 isNumber bs = wellBegun bs && allDigits bs
 
 unfoldable pub numberIn : List ℕ → Option ℕ

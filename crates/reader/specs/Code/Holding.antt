@@ -23,7 +23,7 @@ use Rattle.reader.specs.Code.Keys.{keyAt}
 use Rattle.reader.specs.Code.Lines.{Answers, ordered}
 
 -- What stands in the four slices in a state: declarations, the left and the right side, steps. Before its line a slice may hold anything, but for the steps
-pub record Kept (s : State) (f : File) (ds ls rs ms : List ℕ) : Type 0 where
+pub record InSlices (s : State) (f : File) (ds ls rs ms : List ℕ) : Type 0 where
   pub declarations : s .stage ≢ 0 → ds ≡ declarationsOf f
   pub left : 3 ≤ s .stage → (ls ≡ padded (f .left)) × (s .left ≡ length (f .left))
   pub right : 4 ≤ s .stage → (rs ≡ padded (f .right)) × (s .right ≡ length (f .right))
@@ -33,7 +33,7 @@ pub record Kept (s : State) (f : File) (ds ls rs ms : List ℕ) : Type 0 where
 pub record Holding (s : State) (f : File) (ds ls rs ms : List ℕ) : Type 0 where
   pub lines : List Text
   pub reached : Reached (s .stage) f lines
-  pub kept : Kept s f ds ls rs ms
+  pub kept : InSlices s f ds ls rs ms
 
 -- the state behind a line of the k-th key, whose term has so many words
 abbrev pub stateAfter : ℕ → State → ℕ → State
@@ -48,7 +48,7 @@ stateAfter k s words =
 -- what the value of the k-th key is answered in line n, and what then stands in the slices
 pub record Valued (n k : ℕ) (s : State) (f : File) (v : Text) (r : Fault) (ds ls rs ms : List ℕ) : Type 0 where
   pub answer : Answers n (ordered (keyAt k) f v) r
-  pub kept : (g : File) → ordered (keyAt k) f v ≡ R.good g → Kept (stateAfter k s (r .at)) g ds ls rs ms
+  pub kept : (g : File) → ordered (keyAt k) f v ≡ R.good g → InSlices (stateAfter k s (r .at)) g ds ls rs ms
 
 -- what line n, of a key, answers, and what then stands in them
 pub record After (n : ℕ) (k : Key) (l : R.Line) (r : Taken) (ds ls rs ms : List ℕ) : Type 0 where
@@ -62,8 +62,8 @@ ValuedIn n k v s ds ls rs ms r es ks qs ns =
     (length es ≡ length ds) × (length ks ≡ length ls) × (length qs ≡ length rs) × (length ns ≡ length ms)
     × ((f : File) → Holding s f ds ls rs ms → R.fits (keyAt k) (s .stage) ≡ true → Valued n k s f v r es ks qs ns)
 
-abbrev pub Lined : Text → ℕ → State → List ℕ → List ℕ → List ℕ → List ℕ → Taken → List ℕ → List ℕ → List ℕ → List ℕ → Type 0
-Lined l n s ds ls rs ms r es ks qs ns =
+abbrev pub LineRead : Text → ℕ → State → List ℕ → List ℕ → List ℕ → List ℕ → Taken → List ℕ → List ℕ → List ℕ → List ℕ → Type 0
+LineRead l n s ds ls rs ms r es ks qs ns =
     (length es ≡ length ds) × (length ks ≡ length ls) × (length qs ≡ length rs) × (length ns ≡ length ms)
     × ((f : File) → Holding s f ds ls rs ms → After n (R.keyOf l) (R.lineTaken (s .stage) f l) r es ks qs ns)
 

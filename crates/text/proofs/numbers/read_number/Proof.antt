@@ -4,9 +4,10 @@ use Prim.Native.Nat.{ℕ, _-_, min}
 use native.Mathlib.Omega.{arith}
 use borrow.Author.Tests.{not-true, not-false}
 use lib.ListN.{length, drop}
-use Rattle.text.specs.Numbers.{allDigits, valueFrom, most}
+use Rattle.words.proofs.Listed.{all-more, all-fails, all-end}
+use Rattle.text.specs.Numbers.{isDigit, allDigits, valueFrom, most}
 use Rattle.text.proofs.Decimals.{digit-is}
-use Rattle.text.proofs.Scanned.{number-unbegun, number-undigited, number-value, digit-more, digit-fails, digit-end, value-more, value-end, cut-grown}
+use Rattle.text.proofs.Scanned.{number-unbegun, number-undigited, number-value, value-more, value-end, cut-grown}
 use borrow.Author.Needs.{needs}
 use Rattle.text.proofs.numbers.read_number.Statement.{statement}
 use Rattle.text.proofs.numbers.read_number.Tie as tie
@@ -26,7 +27,7 @@ loop-holds c = (refl, (0, refl, refl))
 returns-2 : tie.Need-returns-2 Inv-loop μ-loop
 returns-2 c =
     let loop = c .before .before .before .before .loop in
-    number-undigited _ (loop .inv .0 ∙ digit-fails _ (loop .i) (omega arith) (sym (c .before .is-digit .ensures) ∙ not-true _ (c .if2 .taken)))
+    number-undigited _ (sym (all-fails isDigit _ (loop .i) (loop .inv .0) (omega arith) (c .before .is-digit .ensures) (c .if2 .taken)))
 
 grown-requires : tie.Need-grown-requires Inv-loop μ-loop
 grown-requires c κs =
@@ -38,7 +39,7 @@ loop-again : tie.Need-loop-again Inv-loop μ-loop
 loop-again c =
     let inv = c .before .before .before .before .before .before .loop .inv in
     let i = c .before .before .before .before .before .before .loop .i in (
-      inv .0 ∙ digit-more _ i (omega arith) (sym (c .before .before .before .is-digit .ensures) ∙ not-false _ (c .before .before .if2 .left)),
+      all-more isDigit _ i (inv .0) (omega arith) (c .before .before .before .is-digit .ensures) (c .before .before .if2 .left),
       (_, c .grown .ensures ∙ cut-grown _ _ _ (inv .1 .1), inv .1 .2 ∙ value-more _ i _ (omega arith)),
     )
 
@@ -48,7 +49,7 @@ returns-3 c =
     let i = c .before .loop .i in
     let end = c .loop-test .left in
     let begun = sym (c .before .before .before .is-well-begun .ensures) ∙ not-false _ (c .before .before .if1 .left) in
-    rw (inv .1 .1) (number-value _ begun (inv .0 ∙ digit-end _ i end) (inv .1 .2 ∙ value-end _ i _ end))
+    rw (inv .1 .1) (number-value _ begun (sym (all-end isDigit _ i (inv .0) end)) (inv .1 .2 ∙ value-end _ i _ end))
 
 pub read-number-spec : {M : Type 1} → statement M
 read-number-spec = tie.close (tie.spec Inv-loop μ-loop (search needs) returns loop-holds (search needs) (search needs) returns-2 (search needs) grown-requires (search needs)
