@@ -66,6 +66,7 @@ extern "C" {
 #define FEJOGBU_KET 1
 #define FEJOGBU_BRA 2
 #define FEJOGBU_OPERATOR 3
+#define FEJOGBU_UNITARY 7         /* An operator that is declared unitary; of variables alone: its type is an operator's. */
 
 /* Replays the bytes of a derivation's file. The answer is code, side (0 none, 1 left, 2 right), step, at, and the lengths in words of the terms that the two work slices are left with;
  * zeros stand behind them. */
@@ -110,7 +111,8 @@ uint64_t fejogbu_start_declarations(uint16_t *declarations, size_t declarations_
 /* Declares one basis name more, of an index. */
 uint64_t fejogbu_put_basis(uint16_t *declarations, size_t declarations_size, const uint16_t *index, size_t index_size);
 
-/* Declares one variable more: a scalar has no index, a ket or a bra its index as the first, an operator that of its rows and that of its columns. An absent index has 0 words. */
+/* Declares one variable more: a scalar has no index, a ket or a bra its index as the first, an operator that of its rows and that of its columns, which
+ * are equal where it is declared unitary. An absent index has 0 words. */
 uint64_t fejogbu_put_variable(uint16_t *declarations, size_t declarations_size, uint16_t kind, const uint16_t *first, size_t first_size, const uint16_t *second,
                               size_t second_size);
 

@@ -26,7 +26,7 @@ impl Declared {
         }
         let twice = [index, index].concat();
         let letters = [(Letter::Ket, index), (Letter::Bra, index), (Letter::Operator, &twice), (Letter::Scalar, &[])];
-        let variables = letters.map(|(letter, words)| Theirs { letter, words: words.to_vec() }).to_vec();
+        let variables = letters.map(|(letter, words)| Theirs::new(letter, words.to_vec())).to_vec();
         Declared { ours, theirs: checker::decl::Declarations { types: 1, bases: vec![], variables } }
     }
 

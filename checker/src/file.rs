@@ -187,16 +187,19 @@ fn token(text: &[u8]) -> Option<u16> {
     }
 }
 
-/// The value of a var line: its letter, then tokens.
+/// The value of a var line: its letter, then tokens. U is an operator that is
+/// declared unitary, and has its index once.
 pub fn variable(value: &[u8]) -> Option<Variable> {
     let (&letter, rest) = value.split_first()?;
-    let letter = Letter::read(letter)?;
     let words = match rest {
         [] => Vec::new(),
         [b' ', rest @ ..] => words(rest)?,
         _ => return None,
     };
-    Some(Variable { letter, words })
+    match letter {
+        b'U' => Some(Variable::unitary(&words)),
+        _ => Some(Variable::new(Letter::read(letter)?, words)),
+    }
 }
 
 /// The value of a step line: its five fields.

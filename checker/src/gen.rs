@@ -45,8 +45,9 @@ impl Gen {
     }
 
     /// New declarations: a few types; bases and variables for each of them and
-    /// for some products, so that a basis of a product need not be a pair. Now and
-    /// then terms over them have sums over a basis.
+    /// for some products, so that a basis of a product need not be a pair; marked
+    /// variables, of which there is at least one, for 190 and 191. Now and then
+    /// terms over them have sums over a basis.
     pub fn declare(&mut self) {
         self.sums = self.rng.below(5) < 2;
         self.bound.clear();
@@ -56,36 +57,28 @@ impl Gen {
         let mut bases: Vec<Vec<u16>> = Vec::new();
         let mut variables = Vec::new();
         for _ in 0..self.rng.within(1, 3) {
-            variables.push(Variable { letter: Letter::Scalar, words: Vec::new() });
+            variables.push(Variable::new(Letter::Scalar, Vec::new()));
         }
         for index in &atoms {
             for _ in 0..self.rng.within(1, 3) {
                 bases.push(index.clone());
             }
-            variables.push(Variable { letter: Letter::Ket, words: index.clone() });
-            variables.push(Variable { letter: Letter::Bra, words: index.clone() });
+            variables.push(Variable::new(Letter::Ket, index.clone()));
+            variables.push(Variable::new(Letter::Bra, index.clone()));
+            if self.rng.once_in(2) {
+                variables.push(Variable::unitary(index));
+            }
             for columns in &atoms {
                 let words = [&index[..], columns].concat();
-                variables.push(Variable { letter: Letter::Operator, words });
+                variables.push(Variable::new(Letter::Operator, words));
                 if self.rng.once_in(2) {
                     bases.push(product(index, columns));
                 }
             }
         }
+        variables.push(Variable::unitary(&self.rng.pick(&atoms).clone()));
         for _ in 0..self.rng.within(0, 3) {
-            let index = self.index();
-            if self.rng.once_in(2) {
-                bases.push(index.clone());
-            }
-            for letter in [Letter::Ket, Letter::Bra] {
-                if self.rng.once_in(2) {
-                    variables.push(Variable { letter, words: index.clone() });
-                }
-            }
-            if self.rng.once_in(2) {
-                let words = [index, self.index()].concat();
-                variables.push(Variable { letter: Letter::Operator, words });
-            }
+            self.declare_over_any(&mut bases, &mut variables);
         }
         self.rng.shuffle(&mut bases);
         self.rng.shuffle(&mut variables);
@@ -93,7 +86,29 @@ impl Gen {
         self.declared.variables = variables;
     }
 
-    /// A choice with dimensions from 1 to `largest`.
+    /// A few names of one index, which may be a product.
+    fn declare_over_any(&mut self, bases: &mut Vec<Vec<u16>>, variables: &mut Vec<Variable>) {
+        let index = self.index();
+        if self.rng.once_in(2) {
+            bases.push(index.clone());
+        }
+        for letter in [Letter::Ket, Letter::Bra] {
+            if self.rng.once_in(2) {
+                variables.push(Variable::new(letter, index.clone()));
+            }
+        }
+        match self.rng.below(4) {
+            0 => variables.push(Variable::unitary(&index)),
+            1 => {
+                let words = [index, self.index()].concat();
+                variables.push(Variable::new(Letter::Operator, words));
+            }
+            _ => {}
+        }
+    }
+
+    /// A choice with dimensions from 1 to `largest`, in which what is marked is
+    /// unitary.
     pub fn choice(&mut self, largest: usize) -> Option<Choice> {
         let types = self.declared.types;
         let dimensions: Vec<usize> = (0..types).map(|_| self.rng.within(1, largest)).collect();
@@ -103,12 +118,32 @@ impl Gen {
         }
         let mut variables = Vec::new();
         for variable in &self.declared.variables {
-            let (rows, columns) = shape(variable.letter, &variable.words, &dimensions)?;
+            let (rows, columns) = shape(variable, &dimensions)?;
             let rng = &mut self.rng;
-            let mut part = || rng.below(7) as i128 - 3;
-            variables
-                .push(Matrix::new(rows, columns, |_, _| Some(Gauss { re: part(), im: part() }))?);
+            variables.push(match variable.marked() {
+                true => unitary(rng, rows)?,
+                false => matrix(rng, rows, columns)?,
+            });
         }
         Some(Choice { dimensions, bases, variables })
     }
+}
+
+/// A matrix of small entries.
+fn matrix(rng: &mut Rng, rows: usize, columns: usize) -> Option<Matrix> {
+    let mut part = || rng.below(7) as i128 - 3;
+    Matrix::new(rows, columns, |_, _| Some(Gauss { re: part(), im: part() }))
+}
+
+/// A unitary matrix: in each row and each column one entry is 1, i, -1 or -i,
+/// the others are 0. Over the Gaussian integers there are no others, since the
+/// squares of a row's absolute values are whole and add up to 1.
+fn unitary(rng: &mut Rng, dimension: usize) -> Option<Matrix> {
+    let mut entries: Vec<(usize, Gauss)> =
+        (0..dimension).map(|column| (column, *rng.pick(&Gauss::UNITS))).collect();
+    rng.shuffle(&mut entries);
+    Matrix::new(dimension, dimension, |row, column| {
+        let (filled, unit) = entries[row];
+        Some(if filled == column { unit } else { Gauss::ZERO })
+    })
 }

@@ -1,7 +1,7 @@
 //! Cases of what a caller lends: declarations, slices, lengths and steps, laid
 //! out as lines of text.
 
-use crate::decl::Declarations;
+use crate::decl::{Declarations, Variable};
 use crate::file::{field, number, sideless_step, variable, words};
 use crate::run::{run, Answer, STEP_WORDS};
 use crate::step::Step;
@@ -208,7 +208,17 @@ fn declare(declared: &mut Declarations, key: &[u8], value: &[u8]) -> Option<()> 
         b"types" => declared.types = number(value)?,
         b"basis" => declared.bases.push(words(value)?),
         b"var" => declared.variables.push(variable(value)?),
+        b"kind" => declared.variables.push(lent_variable(value)?),
         _ => return None,
     }
     Some(())
+}
+
+/// A variable by the word of its kind, which need be none that a var line
+/// gives, and the tokens of its indices.
+fn lent_variable(value: &[u8]) -> Option<Variable> {
+    let mut pieces = value.splitn(2, |&byte| byte == b' ');
+    let kind = field(pieces.next()?)?;
+    let words = pieces.next().map_or(Some(Vec::new()), words)?;
+    Some(Variable { kind, words })
 }

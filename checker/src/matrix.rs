@@ -1,6 +1,6 @@
 //! What a term stands for under a choice: exact matrices of Gaussian integers.
 
-use crate::decl::{Declarations, Letter};
+use crate::decl::{Declarations, Letter, Variable};
 use crate::words::*;
 
 /// A Gaussian integer. Sums and products are nothing when a part passes 128
@@ -14,6 +14,9 @@ pub struct Gauss {
 impl Gauss {
     pub const ZERO: Gauss = Gauss { re: 0, im: 0 };
     pub const ONE: Gauss = Gauss { re: 1, im: 0 };
+    /// 1, i, -1, -i: what has the absolute value 1.
+    pub const UNITS: [Gauss; 4] =
+        [Gauss::ONE, Gauss { re: 0, im: 1 }, Gauss { re: -1, im: 0 }, Gauss { re: 0, im: -1 }];
 
     fn plus(self, other: Gauss) -> Option<Gauss> {
         Some(Gauss { re: self.re.checked_add(other.re)?, im: self.im.checked_add(other.im)? })
@@ -90,7 +93,7 @@ impl Matrix {
         Matrix::new(self.rows, self.columns, |r, c| by.times(self.at(r, c)))
     }
 
-    fn adjoint(&self) -> Option<Matrix> {
+    pub fn adjoint(&self) -> Option<Matrix> {
         Matrix::new(self.columns, self.rows, |r, c| self.at(c, r).conjugate())
     }
 
@@ -107,6 +110,19 @@ impl Matrix {
         })
     }
 
+    fn identity(d: usize) -> Option<Matrix> {
+        Matrix::new(d, d, |r, c| Some(one_if(r == c)))
+    }
+
+    /// Whether the matrix times its adjoint is the identity, from both sides;
+    /// nothing when that is too large to work out.
+    pub fn unitary(&self) -> Option<bool> {
+        let adjoint = self.adjoint()?;
+        let one_side = self.times(&adjoint)? == Matrix::identity(self.rows)?;
+        let other_side = adjoint.times(self)? == Matrix::identity(self.columns)?;
+        Some(one_side && other_side)
+    }
+
     /// The Kronecker product; the left index is the more significant.
     fn tensor(&self, other: &Matrix) -> Option<Matrix> {
         let rows = self.rows.checked_mul(other.rows)?;
@@ -119,7 +135,8 @@ impl Matrix {
 }
 
 /// A dimension for each type name, an index for each basis name, a matrix for
-/// each variable.
+/// each variable. What a step keeps it keeps where the matrices of marked
+/// variables are unitary.
 #[derive(Clone, PartialEq, Eq, Debug)]
 pub struct Choice {
     pub dimensions: Vec<usize>,
@@ -135,11 +152,11 @@ pub fn dimension(index: &[u16], dimensions: &[usize]) -> Option<usize> {
 }
 
 /// The rows and columns of a variable.
-pub fn shape(letter: Letter, words: &[u16], dimensions: &[usize]) -> Option<(usize, usize)> {
-    let (first, second) = split_part(words);
+pub fn shape(variable: &Variable, dimensions: &[usize]) -> Option<(usize, usize)> {
+    let (first, second) = split_part(&variable.words);
     let first = dimension(first, dimensions)?;
     let second = dimension(second, dimensions)?;
-    Some(match letter {
+    Some(match variable.letter()? {
         Letter::Scalar => (1, 1),
         Letter::Ket => (first, 1),
         Letter::Bra => (1, first),
@@ -202,10 +219,7 @@ impl Reader<'_> {
             ZERO_KET => Matrix::new(self.index()?, 1, |_, _| Some(Gauss::ZERO)),
             ZERO_BRA => Matrix::new(1, self.index()?, |_, _| Some(Gauss::ZERO)),
             ZERO_OPERATOR => Matrix::new(self.index()?, self.index()?, |_, _| Some(Gauss::ZERO)),
-            IDENTITY => {
-                let d = self.index()?;
-                Matrix::new(d, d, |r, c| Some(one_if(r == c)))
-            }
+            IDENTITY => Matrix::identity(self.index()?),
             KET => {
                 let (value, d) = self.basis()?;
                 Matrix::new(d, 1, |r, _| Some(one_if(r == value)))

@@ -82,11 +82,13 @@ pub enum Kind {
 }
 
 /// A condition such as `O:O(σ,τ) ⇒`: the part's kind, and the letters that
-/// stand for the indices of its type.
+/// stand for the indices of its type. By `O:U(σ,τ) ⇒` it must also be a variable
+/// that is declared unitary.
 #[derive(Clone, Copy)]
 pub struct Premise {
     pub slot: u8,
     pub kind: Kind,
+    pub marked: bool,
     pub first: u8,
     pub second: u8,
 }
@@ -216,7 +218,8 @@ impl Reader<'_> {
         slot as u8
     }
 
-    /// `K:K(σ) ⇒`, `B:B(σ) ⇒` or `O:O(σ,τ) ⇒`, if one stands in front.
+    /// `K:K(σ) ⇒`, `B:B(σ) ⇒`, `O:O(σ,τ) ⇒` or `O:U(σ,τ) ⇒`, if one stands in
+    /// front.
     const fn premise(&mut self) -> Option<Premise> {
         let (_, behind) = self.look();
         if behind >= self.text.len() || self.text[behind] != b':' {
@@ -224,7 +227,8 @@ impl Reader<'_> {
         }
         let slot = self.letter();
         self.expect(':');
-        let kind = kind_of(self.next());
+        let marked = self.take('U');
+        let kind = if marked { Kind::Operator } else { kind_of(self.next()) };
         self.expect('(');
         let first = self.letter();
         let second = match kind {
@@ -236,7 +240,7 @@ impl Reader<'_> {
         };
         self.expect(')');
         self.expect('⇒');
-        Some(Premise { slot, kind, first, second })
+        Some(Premise { slot, kind, marked, first, second })
     }
 
     /// One product, the sum of two, or the sum of n written with dots.

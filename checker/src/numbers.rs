@@ -3,9 +3,9 @@
 //! A case begins with the number of its sort, by which one program answers all
 //! sorts. But for a file its declarations follow: the number of types; the
 //! number of bases and of each the length and words of its index; the number of
-//! variables and of each its kind (0 scalar, 1 ket, 2 bra, 3 operator) and the
-//! lengths and words of two indices. What a slice begins with is the length that
-//! is told, the number of words and the words.
+//! variables and of each its kind (0 scalar, 1 ket, 2 bra, 3 operator, and 4 more
+//! where it is marked) and the lengths and words of two indices. What a slice begins
+//! with is the length that is told, the number of words and the words.
 //!
 //! A typing case has these of its slice. A step or preview case has them, the
 //! number of words of the whole slice, the word behind the first ones, the rule,
@@ -175,29 +175,21 @@ fn declared(declared: &Declarations) -> Vec<usize> {
     out.push(declared.variables.len());
     for variable in &declared.variables {
         let (first, second) = indices(variable);
-        out.push(kind(variable.letter));
+        out.push(variable.kind.into());
         push(&mut out, first);
         push(&mut out, second);
     }
     out
 }
 
-fn kind(letter: Letter) -> usize {
-    match letter {
-        Letter::Scalar => 0,
-        Letter::Ket => 1,
-        Letter::Bra => 2,
-        Letter::Operator => 3,
-    }
-}
-
-/// A variable's words as two indices. Only an operator has a second: what
-/// stands behind its first. Words that fit no index stay, to be refused.
+/// A variable's words as two indices. Only an operator has a second, and what is of
+/// no kind may: what stands behind its first. Words that fit no index stay, to be
+/// refused.
 fn indices(variable: &Variable) -> (&[u16], &[u16]) {
     let words = &variable.words[..];
-    match variable.letter {
-        Letter::Operator => split_part(words),
-        _ => (words, &[]),
+    match variable.letter() {
+        Some(Letter::Scalar | Letter::Ket | Letter::Bra) => (words, &[]),
+        Some(Letter::Operator) | None => split_part(words),
     }
 }
 

@@ -1,4 +1,4 @@
-//! The 122 rules, by the numbers of document 01 and its change requests, in the
+//! The 124 rules, by the numbers of document 01 and its change requests, in the
 //! words of source document 002. A line that 002 writes as one equation is the rule itself
 //! (see `notation`); the others name the family that carries them out.
 
@@ -53,7 +53,7 @@ const fn collect(i_scaled: bool, j_scaled: bool) -> Way {
 
 /// All rules, ordered by number.
 #[rustfmt::skip]
-pub static RULES: [Rule; 122] = [
+pub static RULES: [Rule; 124] = [
     // Table 1: the special flattening rule (here one child a step; also for × and for X).
     by(Way::Merge, 1, "FLATTEN", "a1+…+(b1+…+bm)+…+an ▷ a1+…+b1+…+bm+…+an"),
     // Table 2: scalar addition and multiplication.
@@ -189,6 +189,9 @@ pub static RULES: [Rule; 122] = [
     rule(181, "SUM1", "Σ_σ(|i⟩·⟨i|) ▷ 1_O(σ)"),
     by(Way::SpreadBody, 182, "SUM2", "Σ_σ(a1+…+an) ▷ Σ_σ(a1)+…+Σ_σ(an)"),
     rule(183, "SUM3", "Σ_σ(δ(s,i)) ▷ 1"),
+    // Change request 7's own, for a variable O that is declared unitary; its σ and τ are one index.
+    rule(190, "UNIT0", "O:U(σ,τ) ⇒ O†·O ▷ 1_O(τ)"),
+    rule(191, "UNIT1", "O:U(σ,τ) ⇒ O·O† ▷ 1_O(σ)"),
 ];
 
 /// The rule of a number.
@@ -455,7 +458,11 @@ fn lawful(law: &Law, declared: &Declarations, spot: Spot, out: &mut Out) -> Opti
     let mut bound = fit(&law.left, spot.part)?;
     let found;
     if let Some(premise) = &law.premise {
-        found = type_at(declared, spot, bound[usize::from(premise.slot)])?;
+        let part = bound[usize::from(premise.slot)];
+        if premise.marked && !declared.marks(part) {
+            return None;
+        }
+        found = type_at(declared, spot, part)?;
         bind_type(premise, &found, &mut bound)?;
     }
     write(law.right.get(), bound, out);

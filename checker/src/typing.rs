@@ -164,7 +164,7 @@ impl Typer<'_> {
                 let variable = self.declared.variables.get(a)?;
                 self.stack.extend_from_slice(&variable.words);
                 let all = variable.words.len();
-                Some(Sort::Term(match variable.letter {
+                Some(Sort::Term(match variable.letter()? {
                     Letter::Scalar => Kind::Scalar,
                     Letter::Ket => Kind::Ket(all),
                     Letter::Bra => Kind::Bra(all),

@@ -2,7 +2,7 @@
 //! document 01, parts that are no instances, and what the lookups give.
 
 use checker::decl::{Declarations, Letter, Variable};
-use checker::file::words;
+use checker::file::{variable, words};
 use checker::matrix::{meaning, shape, Choice, Gauss, Matrix};
 use checker::rules::{Way, RULES};
 use checker::step::{single, Step};
@@ -45,6 +45,10 @@ const VARIABLES: [(&str, Letter, &str); 26] = [
     ("US", Letter::Operator, "U S"),
 ];
 
+/// Variables that are declared unitary, behind the others: two on S, one on a
+/// product.
+const MARKED: [(&str, &str); 3] = [("WS", "S"), ("ZS", "S"), ("WTV", "2 T V")];
+
 /// Words of a text in which the names above stand beside tokens.
 fn read(text: &str) -> Vec<u16> {
     let mut out = Vec::new();
@@ -55,6 +59,8 @@ fn read(text: &str) -> Vec<u16> {
             format!("3:{k}")
         } else if let Some(k) = VARIABLES.iter().position(|(name, ..)| *name == token) {
             format!("26:{k}")
+        } else if let Some(k) = MARKED.iter().position(|(name, _)| *name == token) {
+            format!("26:{}", VARIABLES.len() + k)
         } else {
             token.to_string()
         };
@@ -64,13 +70,14 @@ fn read(text: &str) -> Vec<u16> {
 }
 
 fn declared() -> Declarations {
+    let plain = VARIABLES
+        .iter()
+        .map(|&(_, letter, indices)| Variable::new(letter, read(indices)));
+    let marked = MARKED.iter().map(|(_, index)| Variable::unitary(&read(index)));
     Declarations {
         types: 4,
         bases: BASES.iter().map(|(_, index)| read(index)).collect(),
-        variables: VARIABLES
-            .iter()
-            .map(|&(_, letter, indices)| Variable { letter, words: read(indices) })
-            .collect(),
+        variables: plain.chain(marked).collect(),
     }
 }
 
@@ -89,7 +96,7 @@ fn step(rule: u16, i: u16, j: u16, term: &[u16]) -> (u8, String) {
 }
 
 /// Rule, i, j, the part, what it becomes.
-const RESULTS: [(u16, u16, u16, &str, &str); 137] = [
+const RESULTS: [(u16, u16, u16, &str, &str); 141] = [
     (1, 1, 0, "7:3 a 7:2 b c a", "7:4 a b c a"),
     (1, 0, 0, "8:2 8:1 a b", "8:2 a b"),
     (1, 1, 0, "20:2 kS 20:2 lS kS", "20:3 kS lS kS"),
@@ -227,6 +234,10 @@ const RESULTS: [(u16, u16, u16, &str, &str); 137] = [
     (183, 0, 0, "27 S 10 s 28:0", "6"),
     (183, 0, 0, "27 2 S T 10 4 s t 28:0", "6"),
     (183, 0, 0, "27 2 2 S T U 10 4 4 s t u 28:0", "6"),
+    (190, 0, 0, "25 18 WS WS", "15 S"),
+    (190, 0, 0, "25 18 WTV WTV", "15 2 T V"),
+    (191, 0, 0, "25 ZS 18 ZS", "15 S"),
+    (191, 0, 0, "25 WTV 18 WTV", "15 2 T V"),
 ];
 
 #[test]
@@ -255,7 +266,7 @@ fn unused_indices_are_zero() {
 }
 
 /// Rule, i, j, a typed part that is no instance.
-const REFUSED: [(u16, u16, u16, &str); 111] = [
+const REFUSED: [(u16, u16, u16, &str); 130] = [
     (1, 0, 0, "7:2 8:1 a b"),
     (1, 2, 0, "7:2 7:1 a b"),
     (1, 0, 0, "7:2 a 7:1 b"),
@@ -368,6 +379,29 @@ const REFUSED: [(u16, u16, u16, &str); 111] = [
     (183, 0, 0, "27 S 10 s s"),
     (183, 0, 0, "27 S 7:1 10 s 28:0"),
     (183, 0, 0, "10 s s"),
+    // Not marked.
+    (190, 0, 0, "25 18 SS SS"),
+    (191, 0, 0, "25 SS 18 SS"),
+    // Two variables, both marked, or one of them.
+    (190, 0, 0, "25 18 WS ZS"),
+    (190, 0, 0, "25 18 ZS WS"),
+    (190, 0, 0, "25 18 WS SS"),
+    (190, 0, 0, "25 18 SS WS"),
+    (191, 0, 0, "25 WS 18 ZS"),
+    (191, 0, 0, "25 WS 18 SS"),
+    (191, 0, 0, "25 SS 18 WS"),
+    // The adjoint on the other side, on both, on none, twice.
+    (190, 0, 0, "25 WS 18 WS"),
+    (191, 0, 0, "25 18 WS WS"),
+    (190, 0, 0, "25 WS WS"),
+    (191, 0, 0, "25 18 WS 18 WS"),
+    (191, 0, 0, "25 WS 18 18 WS"),
+    // What is unitary but no marked variable: its adjoint, the identity, a product.
+    (190, 0, 0, "25 18 18 WS 18 WS"),
+    (190, 0, 0, "25 18 15 S 15 S"),
+    (191, 0, 0, "25 25 WS ZS 18 25 WS ZS"),
+    (190, 0, 0, "22 18 WS 22 WS kS"),
+    (190, 0, 0, "WS"),
 ];
 
 #[test]
@@ -378,9 +412,9 @@ fn what_is_no_instance_is_refused_and_stays() {
     }
 }
 
-/// Rule, place, a term with bodies, what it becomes. All but the last eight need
+/// Rule, place, a term with bodies, what it becomes. All but the last ten need
 /// the type of a part that names a basis bound around it.
-const INSIDE: [(u16, u16, &str, &str); 25] = [
+const INSIDE: [(u16, u16, &str, &str); 27] = [
     (43, 2, "27 S 19 5 16 28:0", "27 S 12 S"),
     (43, 4, "27 S 27 T 19 5 16 28:0", "27 S 27 T 12 T"),
     (43, 4, "27 S 27 T 19 5 16 28:1", "27 S 27 T 12 S"),
@@ -406,6 +440,8 @@ const INSIDE: [(u16, u16, &str, &str); 25] = [
     (170, 2, "27 S 10 28:0 s", "27 S 10 s 28:0"),
     (170, 4, "27 S 27 S 10 28:0 28:1", "27 S 27 S 10 28:1 28:0"),
     (170, 4, "27 T 8:2 a 10 4 s 28:0 4 p t", "27 T 8:2 a 10 4 p t 4 s 28:0"),
+    (190, 3, "27 S 22 25 18 WS WS 16 28:0", "27 S 22 15 S 16 28:0"),
+    (191, 5, "27 S 23 17 28:0 25 WS 18 WS", "27 S 23 17 28:0 15 S"),
 ];
 
 #[test]
@@ -507,7 +543,7 @@ fn entries(term: &str) -> Vec<i128> {
     let dimensions = vec![2, 3, 1, 1];
     let mut variables = Vec::new();
     for variable in &declared.variables {
-        let (rows, columns) = shape(variable.letter, &variable.words, &dimensions).unwrap();
+        let (rows, columns) = shape(variable, &dimensions).unwrap();
         let mut k = 0;
         let next = |_, _| {
             k += 1;
@@ -539,7 +575,139 @@ fn a_sum_runs_over_all_indices() {
     assert_eq!(entries("27 S 16 4 28:0 t"), [0, 0, 1, 0, 0, 1]);
 }
 
-/// The numbers of document 01, "The rules by number", and of change request 1.
+/// The word of a variable's kind, its indices, and whether they are a good
+/// declaration.
+const LENT: [(u16, &str, bool); 29] = [
+    (0, "", true),
+    (1, "S", true),
+    (2, "2 S T", true),
+    (3, "S S", true),
+    (3, "S T", true),
+    // Marked.
+    (7, "S S", true),
+    (7, "2 S T 2 S T", true),
+    (7, "2 2 S T U 2 2 S T U", true),
+    // An operator with two different indices, the last two by their words only.
+    (7, "S T", false),
+    (7, "S 2 S S", false),
+    (7, "2 S T 2 T S", false),
+    (7, "2 2 S T U 2 S 2 T U", false),
+    // Not exactly two indices.
+    (7, "", false),
+    (7, "S", false),
+    (7, "S S S", false),
+    (7, "S S S S", false),
+    (7, "2 S 2 S", false),
+    (7, "s s", false),
+    (7, "1:4 1:4", false),
+    // No operator, with its own indices or an operator's.
+    (4, "", false),
+    (4, "S S", false),
+    (5, "S", false),
+    (5, "S S", false),
+    (6, "S", false),
+    // No kind's word.
+    (8, "", false),
+    (8, "S S", false),
+    (11, "S S", false),
+    (259, "S S", false),
+    (65535, "S S", false),
+];
+
+#[test]
+fn a_mark_is_for_operators_with_two_equal_indices() {
+    for (kind, indices, good) in LENT {
+        let mut declared = declared();
+        declared.variables.push(Variable { kind, words: read(indices) });
+        let mut slice = vec![word(5, 0)];
+        slice.resize(WORDS, 0);
+        let code = if good { 0 } else { 7 };
+        assert_eq!(typing(&declared, &slice, 1).code, code, "kind {kind} of {indices}");
+    }
+}
+
+/// The value of a var line, and its indices where it is of the form and good.
+const UNITARY: [(&str, Option<&str>); 12] = [
+    ("U 1:0", Some("S S")),
+    ("U 2 1:0 1:1", Some("2 S T 2 S T")),
+    ("U", None),
+    ("U ", None),
+    ("U 1:0 1:0", None),
+    ("U 2 1:0", None),
+    ("U 2", None),
+    ("U 1:4", None),
+    ("U 3:0", None),
+    ("U1:0", None),
+    ("u 1:0", None),
+    ("UU 1:0", None),
+];
+
+#[test]
+fn a_unitary_is_declared_by_one_index() {
+    for (value, indices) in UNITARY {
+        let read_in = variable(value.as_bytes()).filter(|it| declared().good_variable(it));
+        let expected = indices.map(|words| Variable { kind: 7, words: read(words) });
+        assert_eq!(read_in, expected, "var={value}");
+    }
+}
+
+/// Twice the words of what is no index are no two indices: all runs of up to
+/// five words, of two types and products.
+#[test]
+fn only_an_index_is_an_index_twice() {
+    let declared = declared();
+    let mut runs: Vec<Vec<u16>> = vec![Vec::new()];
+    let mut good = 0;
+    for k in 0..121 {
+        let run = runs[k].clone();
+        for next in [read("S"), read("T"), vec![word(2, 0)]] {
+            runs.push([run.clone(), next].concat());
+        }
+    }
+    for run in runs {
+        let is_index = declared.good_basis(&run);
+        assert_eq!(declared.good_variable(&Variable::unitary(&run)), is_index, "{}", tokens(&run));
+        good += usize::from(is_index);
+    }
+    // 2 of one name, 4 of two, and 2 × 8 of three, which nest in two ways.
+    assert_eq!(good, 2 + 4 + 16);
+}
+
+/// Where the matrix of a marked variable is not unitary, 190 and 191 would not
+/// keep the entries: those of WS are 1, 2, 3, 4.
+#[test]
+fn the_two_products_with_the_adjoint() {
+    assert_eq!(entries("15 S"), [1, 0, 0, 1]);
+    assert_eq!(entries("25 18 WS WS"), [10, 14, 14, 20]);
+    assert_eq!(entries("25 WS 18 WS"), [5, 11, 11, 25]);
+}
+
+/// A matrix of two rows, by its entries' real and imaginary parts.
+fn of_two_rows(entries: &[(i128, i128)]) -> Matrix {
+    let columns = entries.len() / 2;
+    let entry = |r: usize, c: usize| {
+        let (re, im) = entries[columns * r + c];
+        Some(Gauss { re, im })
+    };
+    Matrix::new(2, columns, entry).unwrap()
+}
+
+#[test]
+fn which_matrices_are_unitary() {
+    let (o, e, i) = ((0, 0), (1, 0), (0, 1));
+    for entries in [[e, o, o, e], [o, i, e, o], [i, o, o, (-1, 0)], [o, (0, -1), i, o]] {
+        assert_eq!(of_two_rows(&entries).unitary(), Some(true), "{entries:?}");
+    }
+    // Of two entries in a row, of one that is 2, of none, and a shear.
+    for entries in [[e, e, e, (-1, 0)], [(2, 0), o, o, e], [o, o, o, e], [e, e, o, e]] {
+        assert_eq!(of_two_rows(&entries).unitary(), Some(false), "{entries:?}");
+    }
+    // Not square: unitary from one side only.
+    assert_eq!(of_two_rows(&[e, o, o, o, e, o]).unitary(), Some(false));
+}
+
+/// The numbers of document 01, "The rules by number", and of change requests 1
+/// and 7.
 #[test]
 fn the_numbers_are_those_of_the_paper() {
     let spans: [(&str, u16, &[&str]); 12] = [
@@ -570,6 +738,7 @@ fn the_numbers_are_those_of_the_paper() {
     }
     expected.push((170, "SWAP".to_string()));
     expected.extend((180..).zip((0..4).map(|k| format!("SUM{k}"))));
+    expected.extend((190..).zip((0..2).map(|k| format!("UNIT{k}"))));
     let table: Vec<(u16, String)> =
         RULES.iter().map(|rule| (rule.number, rule.name.to_string())).collect();
     assert_eq!(table, expected);

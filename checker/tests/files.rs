@@ -33,7 +33,7 @@ fn filled(words: &[u16]) -> Vec<u16> {
 fn accepted_derivations_have_equal_matrices() {
     let mut gen = Gen::new(common::seed());
     let (mut steps, mut compared, mut summed) = (0, 0, 0);
-    let mut of_sums = [0; 4];
+    let (mut of_sums, mut of_marks) = ([0; 4], [0; 2]);
     for _ in 0..2_000 {
         gen.declare();
         let length = gen.rng.within(0, 30);
@@ -46,8 +46,10 @@ fn accepted_derivations_have_equal_matrices() {
         assert_eq!(run.left, run.right);
         steps += length;
         for (_, step) in &derivation.steps {
-            if let 180..=183 = step.rule {
-                of_sums[usize::from(step.rule - 180)] += 1;
+            match step.rule {
+                180..=183 => of_sums[usize::from(step.rule - 180)] += 1,
+                190 | 191 => of_marks[usize::from(step.rule - 190)] += 1,
+                _ => {}
             }
         }
 
@@ -67,7 +69,9 @@ fn accepted_derivations_have_equal_matrices() {
     }
     println!("{steps} steps; matrices compared for {compared} of 2000 derivations");
     println!("{summed} of them with bound bases; steps of 180 to 183: {of_sums:?}");
+    println!("steps of 190 and 191: {of_marks:?}");
     assert!(compared > 1_800 && summed > 300 && of_sums.iter().all(|&count| count > 20));
+    assert!(of_marks.iter().all(|&count| count > 20));
 }
 
 #[test]
@@ -225,7 +229,7 @@ fn noise_gets_an_answer() {
         for _ in 0..length {
             file.push(match rng.below(3) {
                 0 => rng.draw() as u8,
-                _ => *rng.pick(b"0123456789: \n=LRSKBO"),
+                _ => *rng.pick(b"0123456789: \n=LRSKBOU"),
             });
         }
         check_form(&file, &run(&file, 3));

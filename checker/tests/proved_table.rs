@@ -91,11 +91,13 @@ fn equation(law: &Law, number: u16) -> String {
     let right = side(&mut law.right.get().iter(), &letters);
     // Elsewhere the left side tells the kind of what a premise is about.
     let apart = law.left.get().iter().any(|item| matches!(item, Item::Apart(_)));
+    let marked = law.premise.is_some_and(|premise| premise.marked);
     let kind = match (number, law.premise.as_ref().map(|premise| premise.kind)) {
         (43, Some(Kind::Ket)) => "a-ket ⇒ ",
         (45, Some(Kind::Bra)) => "a-bra ⇒ ",
         (47, Some(Kind::Operator)) => "an-operator ⇒ ",
         _ if apart => "unused ⇒ ",
+        _ if marked => "marked ⇒ ",
         _ => "",
     };
     format!("{kind}{left} ▷ {right}")

@@ -87,6 +87,30 @@ fn every_rule_keeps_type_and_matrix() {
     assert!(compared >= RULES.len() * INSTANCES * CHOICES);
 }
 
+/// Without this the equality of entries would speak of choices that request 7
+/// leaves out; with the identity alone it would hardly be tested.
+#[test]
+fn what_is_marked_is_unitary_in_every_choice() {
+    let mut gen = Gen::new(common::seed() ^ 7);
+    let (mut marked, mut hermitian, mut other) = (0, 0, 0);
+    for _ in 0..1_000 {
+        gen.declare();
+        let choice = gen.choice(3).expect("declared indices are small");
+        for (variable, matrix) in gen.declared.variables.iter().zip(&choice.variables) {
+            let unitary = matrix.unitary().expect("a small matrix");
+            if variable.marked() {
+                assert!(unitary, "{matrix:?}");
+                marked += 1;
+                hermitian += usize::from(Some(matrix) == matrix.adjoint().as_ref());
+            } else {
+                other += usize::from(!unitary);
+            }
+        }
+    }
+    println!("{marked} marked matrices, {hermitian} equal to their adjoint; {other} not unitary");
+    assert!(marked > 1_000 && marked > 2 * hermitian && other > 1_000);
+}
+
 /// The depth of a whole part, without a limit.
 fn depth(words: &[u16]) -> usize {
     assert!(children_of(words[0]).is_some());

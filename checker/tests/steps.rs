@@ -3,6 +3,7 @@
 //! meet every code and every limit. The preview of every one of them against the
 //! step.
 
+use checker::decl::{Letter, Variable};
 use checker::gen::Gen;
 use checker::lent::Case;
 use checker::preview::{preview, Preview};
@@ -10,7 +11,8 @@ use checker::rules::{by_number, Out, Rule, Spot, Way, RULES};
 use checker::step::{single, Step, Stepped};
 use checker::typing::{typing, Kind, Type};
 use checker::words::{
-    children_of, head, low, part, parts, word, ADD, ADDS, DELTA, DEPTH, MULS, SCR, WORDS,
+    children_of, head, low, part, parts, word, ADD, ADDS, ADJ, DELTA, DEPTH, MULO, MULS, SCR,
+    VARIABLE, WORDS,
 };
 use std::cmp::Ordering;
 use std::collections::BTreeMap;
@@ -139,6 +141,101 @@ fn whatever_has_no_order_is_swapped_and_a_delta_narrowly_missed() {
     println!("by head: taken {taken:?}; missed by i {by_i:?}, by j {by_j:?}");
     assert!([ADDS, MULS, ADD, DELTA].iter().all(|head| taken.get(head) >= Some(&5)));
     assert!(by_i.contains_key(&DELTA) && by_j.contains_key(&DELTA));
+}
+
+/// A product of two variables, of which the first, the second, both or none
+/// have the adjoint: their names, and which have it.
+fn two_variables(part: &[u16]) -> Option<([u16; 2], [bool; 2])> {
+    let &[product, ref children @ ..] = part else {
+        return None;
+    };
+    let of = |child: &[u16]| match *child {
+        [name] => Some((name, false)),
+        [adjoint, name] if adjoint == word(ADJ, 0) => Some((name, true)),
+        _ => None,
+    };
+    let found: Vec<(u16, bool)> = parts(children).map(of).collect::<Option<_>>()?;
+    let [one, two] = found[..] else {
+        return None;
+    };
+    let named = [one.0, two.0].iter().all(|&name| head(name) == VARIABLE);
+    (product == word(MULO, 0) && named).then_some(([one.0, two.0], [one.1, two.1]))
+}
+
+/// What is wrong with a part that 190 or 191 refuses.
+#[derive(Clone, Copy, PartialEq, Eq, PartialOrd, Ord, Debug)]
+enum Unmarked {
+    OneVariable,
+    TwoMarkedVariables,
+    TwoOtherVariables,
+    Turned,
+    BothAdjoint,
+    NoneAdjoint,
+}
+
+fn unmarked(it: &Taken) -> Option<(u16, Unmarked)> {
+    let (rule, part) = it.rule_and_part();
+    let (names, adjoint) = two_variables(part)?;
+    let wanted = match rule.number {
+        190 => [true, false],
+        191 => [false, true],
+        _ => return None,
+    };
+    let marked = names.map(|name| it.case.declared.marks(&[name]));
+    let turned = adjoint == [wanted[1], wanted[0]];
+    let miss = match (names[0] == names[1], marked) {
+        (true, [true, _]) if turned => Unmarked::Turned,
+        (true, [true, _]) if adjoint == [true; 2] => Unmarked::BothAdjoint,
+        (true, [true, _]) if adjoint == [false; 2] => Unmarked::NoneAdjoint,
+        _ if adjoint != wanted || (it.step.i, it.step.j) != (0, 0) => return None,
+        (true, [false, _]) => Unmarked::OneVariable,
+        (false, [true, true]) => Unmarked::TwoMarkedVariables,
+        (false, _) => Unmarked::TwoOtherVariables,
+        _ => return None,
+    };
+    Some((rule.number, miss))
+}
+
+#[test]
+fn every_miss_of_a_marked_pair_is_met() {
+    let misses = counted(answered(22).filter_map(unmarked));
+    println!("by rule and miss: {misses:?}");
+    assert_eq!(misses.len(), 2 * 6);
+}
+
+/// How a variable is marked that may not be.
+#[derive(Clone, Copy, PartialEq, Eq, PartialOrd, Ord, Debug)]
+enum Mark {
+    Scalar,
+    Ket,
+    Bra,
+    TwoIndices,
+    NoKind,
+}
+
+fn bad_mark(variable: &Variable) -> Option<Mark> {
+    match variable.letter() {
+        None => Some(Mark::NoKind),
+        _ if !variable.marked() => None,
+        Some(Letter::Scalar) => Some(Mark::Scalar),
+        Some(Letter::Ket) => Some(Mark::Ket),
+        Some(Letter::Bra) => Some(Mark::Bra),
+        Some(Letter::Operator) => {
+            let half = variable.words.len() / 2;
+            (variable.words[..half] != variable.words[half..]).then_some(Mark::TwoIndices)
+        }
+    }
+}
+
+#[test]
+fn every_bad_mark_is_met() {
+    let marks = |it: &'static Taken| it.case.declared.variables.iter().filter_map(bad_mark);
+    let met = counted(answered(7).flat_map(marks));
+    println!("by mark: {met:?}");
+    assert_eq!(met.len(), 5);
+    // With any other code but 1, which comes before 7, there is none.
+    let good = taken().iter().filter(|it| !matches!(it.answer.code, 1 | 7));
+    assert_eq!(good.flat_map(marks).count(), 0);
 }
 
 /// Whether a refused part has just one child too few, or two children that

@@ -133,7 +133,8 @@ fn ty(declared: &Declarations, tree: &Tree, around: &[&Tree]) -> Option<Ty> {
         (26, []) => {
             let variable = &declared.variables[a];
             let index = variable.words.clone();
-            Some(match variable.letter {
+            // The mark is no part of the type.
+            Some(match variable.letter()? {
                 Letter::Scalar => Scalar,
                 Letter::Ket => Ket(index),
                 Letter::Bra => Bra(index),

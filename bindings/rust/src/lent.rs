@@ -108,6 +108,8 @@ pub enum Variable<'a> {
     Ket(&'a [u16]),
     Bra(&'a [u16]),
     Operator(&'a [u16], &'a [u16]),
+    /// An operator on an index that is declared unitary: rules 190 and 191 are for it.
+    Unitary(&'a [u16]),
 }
 
 /// Declarations: a number of types, the bases and the variables.
@@ -144,6 +146,7 @@ impl Declarations {
             Variable::Ket(index) => (1, index, &[]),
             Variable::Bra(index) => (2, index, &[]),
             Variable::Operator(rows, columns) => (3, rows, columns),
+            Variable::Unitary(index) => (7, index, index),
         };
         let words = &mut self.words;
         // three slices of the lengths that are said, the first lent to nobody else

@@ -352,6 +352,10 @@ fn declarations_are_put_or_refused() {
         declared.variable(Variable::Ket(&[word(2, 0), TYPE])),
         Err(Refused::Bad)
     );
+    assert_eq!(
+        declared.variable(Variable::Unitary(&[TYPE, TYPE])),
+        Err(Refused::Bad)
+    );
     assert_eq!(declared, Declarations::of_types(1).unwrap());
     for a in 0..32 {
         assert_eq!(declared.basis(&[TYPE]), Ok(word(3, a)));
@@ -359,6 +363,27 @@ fn declarations_are_put_or_refused() {
     }
     assert_eq!(declared.basis(&[TYPE]), Err(Refused::Full));
     assert_eq!(declared.variable(Variable::Scalar), Err(Refused::Full));
+}
+
+/// A declared unitary times its adjoint, from both sides; an operator that is not declared so stays.
+#[test]
+fn a_unitary_is_undone_by_its_adjoint() {
+    let mut declared = Declarations::of_types(1).unwrap();
+    let unitary = declared.variable(Variable::Unitary(&[TYPE])).unwrap();
+    let operator = declared
+        .variable(Variable::Operator(&[TYPE], &[TYPE]))
+        .unwrap();
+    for (rule, name, code) in [(190, unitary, 0), (190, operator, 22)] {
+        let mut term = Term::of(&[word(25, 0), word(18, 0), name, name]);
+        let answer = step(&declared, &mut term, by(rule, 0));
+        assert_eq!(answer.code.number(), code);
+        assert_eq!(term.words() == [word(15, 0), TYPE], code == 0);
+    }
+    let mut term = Term::of(&[word(25, 0), unitary, word(18, 0), unitary]);
+    assert_eq!(step(&declared, &mut term, by(191, 0)).code.number(), 0);
+    assert_eq!(term.words(), [word(15, 0), TYPE]);
+    let kind = typing(&declared, &Term::of(&[unitary])).kind;
+    assert_eq!(kind, Kind::Operator(vec![TYPE], vec![TYPE]));
 }
 
 #[test]

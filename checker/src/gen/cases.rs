@@ -3,7 +3,8 @@
 
 use super::walks::{declared_text, step_text};
 use super::Gen;
-use crate::decl::{Declarations, Letter, Variable};
+use super::terms::product;
+use crate::decl::{Declarations, Letter, Variable, MARK};
 use crate::lent::{Case, Lent};
 use crate::words::*;
 
@@ -88,17 +89,38 @@ impl Gen {
     /// A declaration that breaks a limit or a name, or is not exactly the
     /// indices wanted.
     pub(super) fn misdeclare(&mut self, declared: &mut Declarations) {
-        match self.rng.below(5) {
+        match self.rng.below(7) {
+            5 | 6 => self.mismark(declared),
             0 => declared.types = NAMES + 1,
             1 => declared.bases.resize(NAMES + 1, self.atom()),
             2 => declared.bases.push(self.index_of(NAMES + 1)),
             3 => {
-                let letter =
-                    *self.rng.pick(&[Letter::Scalar, Letter::Ket, Letter::Bra, Letter::Operator]);
+                let letter = *self.rng.pick(&Letter::ALL);
                 let words = self.atom().repeat(letter.indices() + 1);
-                declared.variables.push(Variable { letter, words });
+                declared.variables.push(Variable::new(letter, words));
             }
             _ => declared.bases.push(vec![*self.rng.pick(&[word(TYPE, 31), word(PRODUCT, 0)])]),
+        }
+    }
+
+    /// A mark where none may be: on a scalar, a ket or a bra, or on an operator
+    /// of two different indices; or a word that is no kind's. Either is put to a
+    /// variable that is there, or lent as one more.
+    fn mismark(&mut self, declared: &mut Declarations) {
+        let no_operator = |letter: Letter| letter != Letter::Operator;
+        let one = declared.variables.iter_mut().find(|it| it.letter().is_some_and(no_operator));
+        match (one, self.rng.below(5)) {
+            (Some(variable), 0 | 1) => variable.kind += MARK,
+            (Some(variable), 2) => variable.kind += 2 * MARK,
+            (_, 3) => {
+                let kind = *self.rng.pick(&[2 * MARK, 2 * MARK, 11, 255, 263, u16::MAX]);
+                declared.variables.push(Variable { kind, words: self.atom().repeat(2) });
+            }
+            _ => {
+                let (one, other) = (self.atom(), self.atom());
+                let words = [product(&one, &other), one].concat();
+                declared.variables.push(Variable { words, ..Variable::unitary(&[]) });
+            }
         }
     }
 

@@ -4,7 +4,7 @@ use super::Rng;
 use std::ops::Range;
 
 /// Values that stand at an edge of the form or just past it.
-const EDGES: [&str; 40] = [
+const EDGES: [&str; 43] = [
     "7:0",
     "7:256",
     "7:255",
@@ -37,6 +37,9 @@ const EDGES: [&str; 40] = [
     "R",
     "S",
     "K 1:0",
+    "U",
+    "U 1:0",
+    "U 1:0 1:0",
     "2 1:0",
     "999999999999999999999999999999",
     "100000000000000000000000000000",

@@ -129,6 +129,18 @@ enum Hole {
     Index(Vec<u16>),
 }
 
+impl Hole {
+    /// Whether a part that stands in another hole of its letter fits here too.
+    /// Only terms can differ: no rule has an index twice, and the two bases of a
+    /// delta are of one index.
+    fn takes(&self, gen: &Gen, part: &[u16]) -> bool {
+        match self {
+            Hole::Term(want) => gen.want_of(part).as_ref() == Some(want),
+            Hole::Basis(_) | Hole::Index(_) => true,
+        }
+    }
+}
+
 /// An instance of a law's left side in the making.
 struct Build<'l> {
     law: &'l Law,
@@ -145,12 +157,14 @@ impl Build<'_> {
         match item {
             Item::Part(slot) | Item::Apart(slot) => {
                 let slot = usize::from(slot);
-                if self.bound[slot].is_none() {
-                    self.bound[slot] = Some(self.part(gen, slot, &hole)?);
-                }
-                let part = self.bound[slot].as_ref()?;
+                let part = match self.bound[slot].take() {
+                    None => self.part(gen, slot, &hole)?,
+                    Some(part) => Some(part).filter(|part| hole.takes(gen, part))?,
+                };
                 let fits = !matches!(item, Item::Apart(_)) || !part.contains(&OWN);
-                fits.then(|| out.extend(part))
+                out.extend(&part);
+                self.bound[slot] = Some(part);
+                fits.then_some(())
             }
             Item::Word(w) if head(w) == SUM => self.sum_over(gen, hole, out),
             Item::Each { head, .. } => {
@@ -200,12 +214,25 @@ impl Build<'_> {
                         (Kind::Ket, Ket(_)) | (Kind::Bra, Bra(_)) | (Kind::Operator, Operator(..))
                     );
                     fits.then_some(())?;
+                    if premise.marked {
+                        return marked(gen, want);
+                    }
                 }
                 let fuel = gen.rng.below(3);
                 gen.put(want, fuel, &mut out);
             }
         }
         Some(out)
+    }
+}
+
+/// A marked variable of the wanted type, where there is one.
+fn marked(gen: &mut Gen, want: &Want) -> Option<Vec<u16>> {
+    match want {
+        Operator(rows, columns) if rows == columns => {
+            Some(vec![word(VARIABLE, gen.marked(rows)?)])
+        }
+        _ => None,
     }
 }
 

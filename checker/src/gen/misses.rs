@@ -3,6 +3,7 @@
 use super::terms::Want;
 use super::Gen;
 use crate::bodies::Around;
+use crate::decl::{Variable, MARK};
 use crate::lent::Lent;
 use crate::notation::{Item, Law, OWN, SLOTS};
 use crate::rules::{by_number, Rule, Way, RULES};
@@ -37,7 +38,7 @@ impl Gen {
     fn any_rule(&mut self, rule: u16) -> u16 {
         match self.rng.below(3) {
             0 => rule + 256,
-            1 => self.rng.below(190) as u16,
+            1 => self.rng.below(200) as u16,
             _ => self.rng.draw() as u16,
         }
     }
@@ -80,6 +81,7 @@ impl Gen {
         let counted = form(head(words[usize::from(step.place)])) == Form::Count;
         match self.rng.below(6) {
             0..3 if matches!(step.rule, 181 | 183) => self.rebind(words, step.place.into()),
+            0..5 if matches!(step.rule, 190 | 191) => self.unmark(words, step.place.into()),
             0 if counted => self.recount(words, step.place.into()),
             1 | 2 if counted => leave_one(words, step),
             _ if step.rule == 170 && !counted => undo_delta(words, step.place.into()),
@@ -105,6 +107,47 @@ impl Gen {
                 let again = words[second..end].to_vec();
                 words.splice(body + 1..second, again);
             }
+        }
+    }
+
+    /// For 190 and 191: an unmarked variable twice, two different variables, the
+    /// adjoint on the other side, on both sides, or on none.
+    fn unmark(&mut self, words: &mut Vec<u16>, place: usize) {
+        let (name, first) = (words[place + 3], words[place + 1] == word(ADJ, 0));
+        let (other, unmarked) = (self.twin(name, true), self.twin(name, false));
+        let way = self.rng.below(8);
+        let (one, two) = match way {
+            0 | 1 => (unmarked, unmarked),
+            2 | 3 => (other, name),
+            4 => (name, unmarked),
+            _ => (name, name),
+        };
+        let (on_one, on_two) = match way {
+            5 => (!first, first),
+            6 => (true, true),
+            7 => (false, false),
+            _ => (first, !first),
+        };
+        let mut children = Vec::new();
+        for (name, adjoint) in [(one, on_one), (two, on_two)] {
+            children.extend(adjoint.then_some(word(ADJ, 0)));
+            children.push(name);
+        }
+        words.splice(place + 1..place + 4, children);
+    }
+
+    /// Another variable of the type of a marked one, marked or not; the same
+    /// where there is none.
+    fn twin(&mut self, name: u16, marked: bool) -> u16 {
+        let this = &self.declared.variables[usize::from(low(name))];
+        let kind = if marked { this.kind } else { this.kind - MARK };
+        let is_twin = |it: &Variable| it.kind == kind && it.words == this.words;
+        let names = (0..).zip(&self.declared.variables);
+        let twins = names.filter(|&(a, it)| a != low(name) && is_twin(it));
+        let twins: Vec<u8> = twins.map(|(a, _)| a).collect();
+        match twins[..] {
+            [] => name,
+            _ => word(VARIABLE, *self.rng.pick(&twins)),
         }
     }
 
@@ -189,8 +232,8 @@ fn undo_delta(words: &mut Vec<u16>, place: usize) {
 }
 
 /// Where the rule of a good step wants more of a part than its sort: that it
-/// has a head, or that it equals another. The part at the step's place is left
-/// out.
+/// has a head, that it equals another, or that it is marked. The part at the
+/// step's place is left out.
 fn wanted(words: &[u16], step: Step) -> Vec<usize> {
     let place = usize::from(step.place);
     let child = |k: u16| children(words, place)[usize::from(k)];
@@ -214,6 +257,10 @@ fn wanted(words: &[u16], step: Step) -> Vec<usize> {
 
 fn wanted_by_law(law: &Law, words: &[u16], place: usize) -> Vec<usize> {
     let mut met = [false; SLOTS];
+    // A marked variable is wanted already where its letter stands first.
+    if let Some(premise) = law.premise.filter(|premise| premise.marked) {
+        met[usize::from(premise.slot)] = true;
+    }
     let mut at = place;
     let mut out = Vec::new();
     for item in law.left.get() {

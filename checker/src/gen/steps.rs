@@ -11,6 +11,10 @@ use crate::rules::{by_number, RULES};
 use crate::step::{rewrite, Step};
 use crate::words::*;
 
+/// Rules that come four times as often as the others: 170, which is for four
+/// heads, and 190 and 191, which can be missed in many ways.
+const OFTEN: [u16; 9] = [170, 170, 170, 190, 190, 190, 191, 191, 191];
+
 impl Gen {
     /// A step case: a step at an instance of its rule, good or past a limit; or
     /// a near miss of one; or a case that is refused before the step.
@@ -39,9 +43,9 @@ impl Gen {
 
     /// An instance of any rule inside a larger term of some type.
     pub(super) fn inside(&mut self) -> (Want, Vec<u16>, Step) {
-        // 170 is for four heads, and comes as often as four rules.
-        let picked = RULES.get(self.rng.below(RULES.len() + 3)).or_else(|| by_number(170));
-        let rule = picked.expect("170 is a rule");
+        let k = self.rng.below(RULES.len() + OFTEN.len());
+        let picked = RULES.get(k).or_else(|| by_number(OFTEN[k - RULES.len()]));
+        let rule = picked.expect("a rule");
         let Some(instance) = self.instance(rule) else {
             return self.inside();
         };

@@ -153,6 +153,7 @@ impl Gen {
                     Bra(t) => {
                         self.two(MULB, &Bra(middle.clone()), &Operator(middle, t), fuel, out);
                     }
+                    Operator(s, t) if s == t && self.undone(&s, out) => {}
                     Operator(s, t) if self.rng.once_in(2) => {
                         self.two(OUTER, &Ket(s), &Bra(t), fuel, out);
                     }
@@ -163,6 +164,21 @@ impl Gen {
                 }
             }
         }
+    }
+
+    /// Now and then a variable times its adjoint, or its adjoint times it, where
+    /// one on this index is marked.
+    fn undone(&mut self, index: &[u16], out: &mut Vec<u16>) -> bool {
+        let Some(name) = self.marked(index).filter(|_| self.rng.once_in(3)) else {
+            return false;
+        };
+        let (name, adjoint) = (word(VARIABLE, name), word(ADJ, 0));
+        out.push(word(MULO, 0));
+        out.extend(match self.rng.once_in(2) {
+            true => [adjoint, name, name],
+            false => [name, adjoint, name],
+        });
+        true
     }
 
     /// An index; in a body often one that a sum around it runs over.
@@ -327,14 +343,26 @@ impl Gen {
 
     /// A variable of the wanted type, if one is declared.
     fn variable(&mut self, want: &Want) -> Option<u8> {
-        let fits = |variable: &Variable| match (variable.letter, want) {
-            (Letter::Scalar, Scalar) => true,
-            (Letter::Ket, Ket(index)) | (Letter::Bra, Bra(index)) => variable.words == *index,
-            (Letter::Operator, Operator(rows, columns)) => {
+        self.variable_that(|variable| match (variable.letter(), want) {
+            (Some(Letter::Scalar), Scalar) => true,
+            (Some(Letter::Ket), Ket(index)) | (Some(Letter::Bra), Bra(index)) => {
+                variable.words == *index
+            }
+            (Some(Letter::Operator), Operator(rows, columns)) => {
                 variable.words.strip_prefix(&rows[..]) == Some(columns)
             }
             _ => false,
-        };
+        })
+    }
+
+    /// A marked variable on an index, if one is declared.
+    pub(super) fn marked(&mut self, index: &[u16]) -> Option<u8> {
+        let wanted = Variable::unitary(index);
+        self.variable_that(|variable| *variable == wanted)
+    }
+
+    /// A variable that fits, if one is declared.
+    pub(super) fn variable_that(&mut self, fits: impl Fn(&Variable) -> bool) -> Option<u8> {
         let variables = &self.declared.variables;
         let fitting: Vec<usize> = (0..variables.len()).filter(|&a| fits(&variables[a])).collect();
         if fitting.is_empty() {

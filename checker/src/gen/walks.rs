@@ -1,7 +1,7 @@
 //! Accepted derivations, and their files.
 
 use super::Gen;
-use crate::decl::Declarations;
+use crate::decl::{Declarations, Variable};
 use crate::rules::{Out, Spot, Way, RULES};
 use crate::step::{rewrite, Step};
 use crate::words::*;
@@ -161,13 +161,25 @@ pub fn declared_text(declared: &Declarations) -> String {
         text += &format!("basis={}\n", tokens(index));
     }
     for variable in &declared.variables {
-        text += &format!("var={}", variable.letter.text());
-        if !variable.words.is_empty() {
-            text += &format!(" {}", tokens(&variable.words));
-        }
-        text += "\n";
+        text += &variable_text(variable);
     }
     text
+}
+
+/// The line of a variable. What no var line says stands by the word of its kind,
+/// as only a caller can lend it.
+fn variable_text(variable: &Variable) -> String {
+    let words = &variable.words[..];
+    let once = &words[..words.len() / 2];
+    let (mut text, words) = match variable.letter() {
+        Some(letter) if !variable.marked() => (format!("var={}", letter.text()), words),
+        _ if *variable == Variable::unitary(once) => ("var=U".to_string(), once),
+        _ => (format!("kind={}", variable.kind), words),
+    };
+    if !words.is_empty() {
+        text += &format!(" {}", tokens(words));
+    }
+    text + "\n"
 }
 
 pub fn step_text(step: Step) -> String {

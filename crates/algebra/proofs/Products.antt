@@ -3,11 +3,12 @@ use mathlib.Core.Path.{_≡_, refl, sym, _∙_, ap}
 use Prim.Native.Nat.{ℕ, _<_}
 use Rattle.algebra.specs.Semirings.{Arithmetic, StarSemiring}
 use Rattle.algebra.specs.Sums.{sum}
-use Rattle.algebra.specs.Matrices.{Matrix, _≈_, kronecker-delta, zeros, identity, unit-column, unit-row, scalar, add, scale, mul, adjoint}
+use Rattle.algebra.specs.Matrices.{Matrix, _≈_, kronecker-delta, zeros, identity, unit-column, unit-row, scalar, add, scale, mul, adjoint, Unitary}
 use Rattle.algebra.proofs.Semirings as S
 use Rattle.algebra.proofs.Sums.{sum-ext, sum-none, sum-add, sum-scale, sum-swap, sum-conj, sum-single}
 use Rattle.algebra.proofs.Deltas.{delta-same, delta-differ, delta-sym}
-use Rattle.algebra.proofs.Alike.{everywhere}
+use Rattle.algebra.proofs.Alike.{≈-refl, ≈-trans, everywhere, mul-≈}
+use Rattle.algebra.proofs.Linear.{adjoint-identity}
 
 module _ {R : Type 0} {𝓐 : Arithmetic R} (𝓡 : StarSemiring 𝓐) where
   open Arithmetic 𝓐 using (add as _⊕_, mul as _⊙_)
@@ -93,6 +94,13 @@ module _ {R : Type 0} {𝓐 : Arithmetic R} (𝓡 : StarSemiring 𝓐) where
             sum-ext 𝓐 (A .columns) _ _ (λ l b. 𝓡 .mul-comm (A .entry i l) (kronecker-delta 𝓐 l j))
             ∙ pick (A .columns) j (λ l. A .entry i l) (rw e k);
       }
+
+  pub identity-unitary : (n : ℕ) → Unitary 𝓐 (identity 𝓐 n)
+  unfolding identity adjoint
+  identity-unitary n =
+      let a = adjoint-identity 𝓡 n in
+      let once = identity-mul n (identity 𝓐 n) refl in
+      record { left = ≈-trans (mul-≈ 𝓐 refl a (≈-refl _)) once; right = ≈-trans (mul-≈ 𝓐 refl (≈-refl _) a) once }
 
   -- the inner product of a unit row and a unit column
   pub unit-row-column : (n s t : ℕ) → s < n → mul 𝓐 (unit-row 𝓐 n s) (unit-column 𝓐 n t) ≈ scalar 𝓐 (kronecker-delta 𝓐 s t)

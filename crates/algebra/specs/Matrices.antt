@@ -75,3 +75,8 @@ module _ {R : Type 0} (𝓐 : Arithmetic R) where
   -- 02, CR 1: "the sum of its body over all indices of its dimension": of n matrices of one shape
   unfoldable pub sum-matrices : ℕ → (ℕ → Matrix R) → Matrix R
   sum-matrices n f = record { rows = f 0 .rows; columns = f 0 .columns; entry = λ i j. sum 𝓐 n λ k. f k .entry i j }
+
+  -- 02, CR 7: "a marked matrix times its adjoint is the identity, from both sides"
+  pub record Unitary (A : Matrix R) : Type 0 where
+    pub left : mul (adjoint A) A ≈ identity (A .columns)
+    pub right : mul A (adjoint A) ≈ identity (A .rows)

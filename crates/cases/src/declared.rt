@@ -1,5 +1,5 @@
 // The declarations of a case, as numbers: how many types; how many bases, and of each the length and the words of its index; how many
-// variables, and of each the kind (0 scalar, 1 ket, 2 bra, 3 operator) and the lengths and words of both indices.
+// variables, and of each the kind (0 scalar, 1 ket, 2 bra, 3 operator, and 4 more where it is marked) and the lengths and words of both indices.
 use crate::input::narrow;
 use crate::input::next_count;
 use crate::input::next_number;

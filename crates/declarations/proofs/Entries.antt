@@ -1,16 +1,19 @@
 -- Good declarations: what the test tells of each entry, and that the context they make is well-formed.
-use mathlib.Core.Path.{_≡_, refl, _∙_}
+use mathlib.Core.Path.{_≡_, refl, sym, _∙_, ap}
 use mathlib.Core.Logic.{_≢_}
 use mathlib.Core.Bool.{Bool, true, false, cond, _&&_, not, and-true, and-false, and-eq-true-iff}
 use mathlib.Core.List.{List, [], _∷_, _++_}
+use mathlib.Core.Option.{some}
 use Prim.Native.Nat.{ℕ, zero, suc, _+_, _/_, _%_, _≤_, _<_}
 use native.Mathlib.Omega.{arith}
 use borrow.Author.Tests.{eq-eqb, ne-eqb, ltb-true, leb-true, eqb-true}
 use lib.Dec.{ltb, leb, eqb}
 use lib.ListN.{length, take, drop, getD, length-append}
 use lib.Seq.{take-length}
-use Rattle.words.specs.Listed.{allUpTo, all}
-use Rattle.words.proofs.Listed.{upTo-some, length-upTo, allUpTo-at, all-++}
+use Rattle.words.specs.Listed.{upTo, allUpTo, all}
+use Rattle.words.proofs.Listed.{upTo-at, upTo-some, upTo-mark, length-upTo, allUpTo-at, all-++}
+use Rattle.words.specs.Words.{sameWords}
+use Rattle.words.proofs.Runs.{same-words-eq}
 use Rattle.term.specs.Heads.{Label, type-name, index-product, labelled, word, heads, reading, read}
 use Rattle.term.specs.Trees.{Tree, Forest, node, none, _▹_, count, _⧺_, words, words*, Formed, Formed*}
 use Rattle.term.specs.Parts.{parse, first, part, treeIn}
@@ -20,7 +23,7 @@ use Rattle.term.proofs.Scan.{part-front}
 use Rattle.types.specs.Sorts.{scalar, ket, bra, operator, index, IsType, Context, countsOf, Short}
 use Rattle.types.specs.Rules.{_⊢_∶_, type-var, base-prod, Index, Proper, WellFormed}
 use Rattle.declarations.specs.Declarations.{size, counted, indexWord, indexWords, indexIn, typeIn, basisAt, variableAt, basisIn, variableIn, contextIn, namesIn, goodIndex, isIndex}
-use Rattle.declarations.specs.Declarations.{isVariable, goodBasis, goodVariable, goodDeclarations}
+use Rattle.declarations.specs.Declarations.{marked, markIn, marksSquare, isVariable, goodBasis, goodVariable, goodDeclarations}
 
 -- ---- the words of an index
 -- one word is an index where it may stand in one and is no product, which wants more
@@ -67,14 +70,18 @@ index-tests N ws e =
 
 module _ (N kind : ℕ) (xs ys : List ℕ) where
   abbrev firstWanted : Bool
-  firstWanted = cond (eqb kind 0) (eqb (length xs) 0) (isIndex N xs)
+  firstWanted = cond (eqb (kind % 4) 0) (eqb (length xs) 0) (isIndex N xs)
 
   abbrev secondWanted : Bool
-  secondWanted = cond (eqb kind 3) (isIndex N ys) (eqb (length ys) 0)
+  secondWanted = cond (eqb (kind % 4) 3) (isIndex N ys) (eqb (length ys) 0)
 
-  pub variable-tests : isVariable N kind xs ys ≡ true → (kind ≤ 3) × (firstWanted ≡ true) × (secondWanted ≡ true)
+  pub variable-tests : isVariable N kind xs ys ≡ true → (marksSquare kind xs ys ≡ true) × (firstWanted ≡ true) × (secondWanted ≡ true)
   unfolding isVariable
-  variable-tests e = let p = all-three (leb kind 3) firstWanted secondWanted e in (leb-true _ _ (p .0), p .1, p .2)
+  variable-tests e = all-three (marksSquare kind xs ys) firstWanted secondWanted e
+
+pub square-told : (kind : ℕ) (xs ys : List ℕ) → marksSquare kind xs ys ≡ true → marked kind ≡ true → (kind ≡ 7) × (xs ≡ ys)
+unfolding marksSquare
+square-told kind xs ys e m = let p = and-eq-true-iff (eqb kind 7) (sameWords xs ys) .0 (rw m at e) in (eqb-true _ _ (p .0), same-words-eq xs ys (p .1))
 
 -- the code asks whether an index is to be absent
 pub turned : (b x y : Bool) → cond b x y ≡ cond (not b) y x
@@ -89,8 +96,12 @@ module _ (ds : List ℕ) (a : ℕ) where
   abbrev pub basisWords : List ℕ
   basisWords = take basisLen (drop (basisAt a + 1) ds)
 
+  -- with its mark, and without
+  abbrev pub kindWord : ℕ
+  kindWord = getD ds (variableAt a) 0
+
   abbrev pub kind : ℕ
-  kind = getD ds (variableAt a) 0
+  kind = kindWord % 4
 
   abbrev pub firstLen : ℕ
   firstLen = getD ds (variableAt a + 1) 0
@@ -200,13 +211,13 @@ declarations ds e =
     let q = counts (getD ds 0 0) (getD ds 1 0) (getD ds 2 0) (p .1) in
     record { long = eqb-true _ _ (p .0); types = q .0; bases = q .1; variables = q .2; basis = allUpTo-at _ _ (p .2); variable = allUpTo-at _ _ (p .3) }
 
--- both lengths are short, and the indices that a variable's kind wants are good
+-- both lengths are short, the indices that a variable's kind wants are good, and where it is marked they are equal
 pub record GoodVariable (ds : List ℕ) (a : ℕ) : Type 0 where
-  pub known : kind ds a ≤ 3
   pub first-few : firstLen ds a ≤ maxIndex
   pub second-few : secondLen ds a ≤ maxIndex
   pub rows-good : kind ds a ≢ 0 → GoodIndex (getD ds 0 0) ds (variableAt a + 3) (firstLen ds a)
   pub columns-good : kind ds a ≡ 3 → GoodIndex (getD ds 0 0) ds (variableAt a + 66) (secondLen ds a)
+  pub square : markIn ds a ≡ true → (kindWord ds a ≡ 7) × (firstWords ds a ≡ secondWords ds a)
 
 module _ (ds : List ℕ) (a : ℕ) where
   abbrev BasisOf : Type 0
@@ -220,17 +231,17 @@ module _ (ds : List ℕ) (a : ℕ) where
   basis-good h = good (getD ds 0 0) ds (basisAt a + 1) (basisLen ds a) (declarations ds (h .0) .basis a (h .1))
 
   pub variable-good : VariableOf → GoodVariable ds a
-  unfolding goodVariable
+  unfolding goodVariable markIn
   variable-good h =
       let N = getD ds 0 0 in
       let p = all-three (leb (firstLen ds a) maxIndex) (leb (secondLen ds a) maxIndex) _ (declarations ds (h .0) .variable a (h .1)) in
-      let q = variable-tests N (kind ds a) (firstWords ds a) (secondWords ds a) (p .2) in
+      let q = variable-tests N (kindWord ds a) (firstWords ds a) (secondWords ds a) (p .2) in
       record {
-        known = q .0;
         first-few = leb-true _ _ (p .0);
         second-few = leb-true _ _ (p .1);
         rows-good = λ k. told N ds _ _ (leb-true _ _ (p .0)) (rw (ne-eqb _ _ k) at (q .1));
         columns-good = λ k. told N ds _ _ (leb-true _ _ (p .1)) (rw (eq-eqb _ _ k) at (q .2));
+        square = square-told (kindWord ds a) (firstWords ds a) (secondWords ds a) (q .0);
       }
 
   -- where the entries of a basis name and of a variable lie
@@ -264,6 +275,13 @@ module _ (ds : List ℕ) (a : ℕ) where
   unfolding variableIn typeIn
   kind-3 e = rw e
 
+  square-type : kindWord ds a ≡ 7 → firstWords ds a ≡ secondWords ds a → variableIn ds a ≡ operator rows rows
+  unfolding variableIn typeIn indexIn
+  square-type e s = rw (e, s)
+
+marked-told : (n : ℕ) (f : ℕ → Bool) (a : ℕ) → getD (upTo n f) a false ≡ true → (a < n) × (f a ≡ true)
+marked-told n f a m = let p = and-eq-true-iff (ltb a n) (f a) .0 (sym (upTo-mark n f a) ∙ m) in (ltb-true a n (p .0), p .1)
+
 -- ---- good declarations make a well-formed context
 module _ (ds : List ℕ) where
   abbrev Γ : Context
@@ -287,6 +305,10 @@ module _ (ds : List ℕ) where
         variables = rw length-upTo (g .variables);
         basis-index = λ a σ h. let p = upTo-some _ _ a σ h in rw (← p .1) (typed Γ (basis-good ds a (e, p .0)));
         variable-type = λ a S h. let p = upTo-some _ _ a S h in rw (← p .1) (proper-by a _ refl (variable-good ds a (e, p .0)));
+        marked-square = λ a m.
+            let p = marked-told (getD ds 2 0) (markIn ds) a m in
+            let s = variable-good ds a (e, p .0) .square (p .1) in
+            (rows ds a, upTo-at _ _ a (p .0) ∙ ap some (square-type ds a (s .0) (s .1)));
       }
 
 -- good declarations name as many as the context that they make

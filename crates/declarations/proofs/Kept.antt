@@ -16,9 +16,9 @@ use Rattle.words.specs.Words.{cleared}
 use Rattle.words.proofs.Runs.{length-cleared}
 use Rattle.words.proofs.Listed.{allUpTo-all}
 use Rattle.declarations.specs.declared.constructor.Put.the-variants.{Done}
-use Rattle.declarations.specs.Declarations.{size, basisAt, variableAt, typeIn, basisIn, variableIn, goodIndex, isIndex, isVariable, goodBasis, goodVariable, goodDeclarations}
+use Rattle.declarations.specs.Declarations.{size, basisAt, variableAt, typeIn, marked, basisIn, variableIn, markIn, goodIndex, isIndex, isVariable, goodBasis, goodVariable, goodDeclarations}
 use Rattle.declarations.specs.Put.{started, room, basisPut, variablePut}
-use Rattle.declarations.proofs.Entries.{index-tests, basisLen, basisWords, kind, firstLen, secondLen, firstWords, secondWords, GoodDeclarations, declarations, basis-good, variable-good}
+use Rattle.declarations.proofs.Entries.{index-tests, basisLen, basisWords, kindWord, firstLen, secondLen, firstWords, secondWords, GoodDeclarations, declarations, basis-good, variable-good}
 use Rattle.declarations.proofs.Put.{room-done, variable-few}
 use Rattle.declarations.proofs.Stores.{Same, same-then, same-part, same-word, same-first, Apart, before, behind, sets-before, sets-apart, sets-inside}
 
@@ -28,7 +28,7 @@ pub record BasisHas (ds : List ℕ) (a n : ℕ) (ws : List ℕ) : Type 0 where
   pub index : take n (drop (basisAt a + 1) ds) ≡ ws
 
 pub record VariableHas (ds : List ℕ) (a k n m : ℕ) (xs ys : List ℕ) : Type 0 where
-  pub kind-is : kind ds a ≡ k
+  pub kind-is : kindWord ds a ≡ k
   pub first-len : firstLen ds a ≡ n
   pub second-len : secondLen ds a ≡ m
   pub first : take n (drop (variableAt a + 3) ds) ≡ xs
@@ -51,6 +51,10 @@ module _ {ds : List ℕ} {a k n m : ℕ} {xs ys : List ℕ} (h : VariableHas ds 
   pub variable-type : variableIn ds a ≡ typeIn k (treeIn (parse xs)) (treeIn (parse ys))
   unfolding variableIn
   variable-type = rw (h .kind-is, h .first-len, h .second-len, h .first, h .second)
+
+  pub variable-mark : markIn ds a ≡ marked k
+  unfolding markIn
+  variable-mark = rw (h .kind-is)
 
 -- ---- an entry whose words are those of another run
 basis-same : {out : List ℕ} {a : ℕ} {r : List ℕ} {j m : ℕ} (n : ℕ) → Same out (basisAt a) r j m → getD r j 0 ≡ n → n < m → BasisHas out a n (take n (drop (j + 1) r))
@@ -84,7 +88,7 @@ module _ {ds out : List ℕ} {n m : ℕ} (e : goodDeclarations ds ≡ true) (k :
   basis-held : (b : ℕ) → b < getD ds 1 0 → BasisHas out b (basisLen ds b) (basisWords ds b)
   basis-held b h = let g = basis-good ds b (e, h) in basis-same (basisLen ds b) (k .basis b h) refl (omega (arith, g .few))
 
-  variable-held : (b : ℕ) → b < getD ds 2 0 → VariableHas out b (kind ds b) (firstLen ds b) (secondLen ds b) (firstWords ds b) (secondWords ds b)
+  variable-held : (b : ℕ) → b < getD ds 2 0 → VariableHas out b (kindWord ds b) (firstLen ds b) (secondLen ds b) (firstWords ds b) (secondWords ds b)
   variable-held b h =
       let g = variable-good ds b (e, h) in
       let s = k .variable b h in
@@ -97,6 +101,10 @@ module _ {ds out : List ℕ} {n m : ℕ} (e : goodDeclarations ds ≡ true) (k :
   pub variable-kept : (b : ℕ) → b < getD ds 2 0 → variableIn out b ≡ variableIn ds b
   unfolding variableIn
   variable-kept b h = variable-type (variable-held b h)
+
+  pub mark-kept : (b : ℕ) → b < getD ds 2 0 → markIn out b ≡ markIn ds b
+  unfolding markIn
+  mark-kept b h = variable-mark (variable-held b h)
 
   basis-still-good : (b : ℕ) → b < getD ds 1 0 → goodBasis out b ≡ true
   unfolding goodBasis goodIndex

@@ -4,3 +4,4 @@ pub mod Put
 mod Stores
 pub mod Kept
 pub mod Grown
+mod Samples

@@ -3,7 +3,7 @@ use mathlib.Core.Path.{_≡_, refl, sym, _∙_}
 use mathlib.Core.Logic.{_≢_}
 use mathlib.Core.Bool.{Bool, true, false, cond, not}
 use mathlib.Core.List.{List, [], _∷_}
-use Prim.Native.Nat.{ℕ, suc, _+_, _≤_, _<_}
+use Prim.Native.Nat.{ℕ, suc, _+_, _%_, _≤_, _<_}
 use native.Mathlib.Numerals.{add-one}
 use native.Mathlib.Omega.{arith}
 use borrow.Author.Tests.{eqb-true, eqb-false}
@@ -85,4 +85,4 @@ wanted-few false N ws e = index-tests N ws e .1
 pub variable-few : (N kind : ℕ) (xs ys : List ℕ) → isVariable N kind xs ys ≡ true → (length xs ≤ maxIndex) × (length ys ≤ maxIndex)
 variable-few N kind xs ys e =
     let p = variable-tests N kind xs ys e in
-    (wanted-few (eqb kind 0) N xs (p .1), wanted-few (not (eqb kind 3)) N ys (sym (turned (eqb kind 3) (isIndex N ys) (eqb (length ys) 0)) ∙ p .2))
+    (wanted-few (eqb (kind % 4) 0) N xs (p .1), wanted-few (not (eqb (kind % 4) 3)) N ys (sym (turned (eqb (kind % 4) 3) (isIndex N ys) (eqb (length ys) 0)) ∙ p .2))

@@ -3,15 +3,17 @@
 --     word 1             the number of basis names
 --     word 2             the number of variables
 --     from 3             32 entries of 64 words, one for each basis name: the length of its index, then the index's words
---     from 2051          32 entries of 129 words, one for each variable: its kind (0 scalar, 1 ket, 2 bra, 3 operator), the lengths of its two indices, then 63
---                        words for each. A scalar has no index, a ket or a bra has its index as the first, an operator its rows' and its columns'
+--     from 2051          32 entries of 129 words, one for each variable: its kind (0 scalar, 1 ket, 2 bra, 3 operator, and 4 more where it is marked as unitary), the
+--                        lengths of its two indices, then 63 words for each. A scalar has no index, a ket or a bra has its index as the first, an operator its rows'
+--                        and its columns'
 -- Words that no entry's length takes in are not looked at.
-use mathlib.Core.Bool.{Bool, cond, _&&_}
+use mathlib.Core.Bool.{Bool, true, cond, _&&_}
 use mathlib.Core.List.{List, []}
 use Prim.Native.Nat.{ℕ, _+_, _*_, _/_, _%_}
 use lib.Dec.{eqb, leb, ltb}
 use lib.ListN.{length, getD, take, drop}
 use Rattle.words.specs.Listed.{upTo, allUpTo, all}
+use Rattle.words.specs.Words.{sameWords}
 use Rattle.term.specs.declared.terms.Names.{Names}
 use Rattle.term.specs.Trees.{Tree}
 use Rattle.term.specs.Parts.{parse, part, treeIn}
@@ -32,9 +34,12 @@ unfoldable pub indexIn : List ℕ → ℕ → ℕ → Tree
 unfolding treeIn parse
 indexIn ds at n = treeIn (parse (take n (drop at ds)))
 
--- the type of a variable, by its kind
+-- the type of a variable, by its kind; the mark is no part of it
 unfoldable pub typeIn : ℕ → Tree → Tree → Sort
-typeIn kind σ τ = cond (eqb kind 1) (ket σ) (cond (eqb kind 2) (bra σ) (cond (eqb kind 3) (operator σ τ) scalar))
+typeIn kind σ τ = let k = kind % 4 in cond (eqb k 1) (ket σ) (cond (eqb k 2) (bra σ) (cond (eqb k 3) (operator σ τ) scalar))
+
+abbrev pub marked : ℕ → Bool
+marked kind = leb 4 kind
 
 unfoldable pub basisIn : List ℕ → ℕ → Tree
 unfolding indexIn
@@ -46,10 +51,24 @@ variableIn ds a =
     let at = variableAt a in
     typeIn (getD ds at 0) (indexIn ds (at + 3) (getD ds (at + 1) 0)) (indexIn ds (at + 66) (getD ds (at + 2) 0))
 
+unfoldable pub markIn : List ℕ → ℕ → Bool
+markIn ds a = marked (getD ds (variableAt a) 0)
+
+-- the word of a variable that is declared and marked
+unfoldable pub markedWord : List ℕ → ℕ → Bool
+unfolding markIn
+markedWord ds w = eqb (w / 256) 26 && (ltb (w % 256) (getD ds 2 0) && markIn ds (w % 256))
+
 -- what the declarations declare
 unfoldable pub contextIn : List ℕ → Context
-unfolding upTo basisIn variableIn
-contextIn ds = record { types = getD ds 0 0; bases = upTo (getD ds 1 0) (basisIn ds); variables = upTo (getD ds 2 0) (variableIn ds); bound = [] }
+unfolding upTo basisIn variableIn markIn
+contextIn ds = record {
+  types = getD ds 0 0;
+  bases = upTo (getD ds 1 0) (basisIn ds);
+  variables = upTo (getD ds 2 0) (variableIn ds);
+  marks = upTo (getD ds 2 0) (markIn ds);
+  bound = [];
+}
 
 -- the same in the bodies of sums that have these for an index, the innermost first
 abbrev pub contextAt : List ℕ → List Tree → Context
@@ -69,12 +88,18 @@ unfolding indexWord all part
 isIndex N ws =
     ltb 0 (length ws) && (leb (length ws) maxIndex && (eqb (length (part ws 0)) (length ws) && indexWords N ws))
 
--- a kind from 0 to 3, and exactly the indices that it wants: the others are empty
+-- 02, CR 7: "a mark on anything but an operator with two equal indices is 7"
+unfoldable pub marksSquare : ℕ → List ℕ → List ℕ → Bool
+unfolding sameWords
+marksSquare kind first second = cond (marked kind) (eqb kind 7 && sameWords first second) true
+
+-- a kind, marked or not, and exactly the indices that it wants: the others are empty
 unfoldable pub isVariable : ℕ → ℕ → List ℕ → List ℕ → Bool
+unfolding marksSquare
 isVariable N kind first second =
-    leb kind 3
-    && (cond (eqb kind 0) (eqb (length first) 0) (isIndex N first)
-    && cond (eqb kind 3) (isIndex N second) (eqb (length second) 0))
+    marksSquare kind first second
+    && (cond (eqb (kind % 4) 0) (eqb (length first) 0) (isIndex N first)
+    && cond (eqb (kind % 4) 3) (isIndex N second) (eqb (length second) 0))
 
 -- the same of words in their places. A length word may say anything, so it is tested first
 unfoldable pub goodIndex : ℕ → List ℕ → ℕ → ℕ → Bool

@@ -4,13 +4,15 @@ pub mod constructor;
 use term::heads::INDEX_PRODUCT;
 use term::parts::part_end;
 use term::terms::Names;
+use words::same;
+use words::word_at;
 ghost use mathlib.Core.Path.{_≡_};
 ghost use mathlib.Core.Bool.{cond, _&&_};
 ghost use Prim.Native.Nat.{_+_, _≤_, _<_};
 ghost use lib.Dec.{eqb, leb};
 ghost use lib.ListN.{length, take, drop, getD};
 ghost use Rattle.words.specs.Listed.{allUpTo};
-ghost use Rattle.declarations.specs.Declarations.{indexWord, indexWords, isIndex, isVariable, counted, goodDeclarations, namesIn};
+ghost use Rattle.declarations.specs.Declarations.{indexWord, indexWords, isIndex, marksSquare, isVariable, counted, goodDeclarations, namesIn, markedWord};
 ghost use Rattle.declarations.specs.Code.Entries.{goodEntry};
 
 // The words of all declarations, used or not.
@@ -72,17 +74,30 @@ fn is_wanted(absent: bool, types: usize, ws: &[u16]) -> bool
     is_index(types, ws)
 }
 
-// Whether a kind is one, and the words are exactly the indices that it wants.
+// Whether a kind is not marked, or the operator's with two equal indices.
+fn marks_square(kind: u16, first: &[u16], second: &[u16]) -> bool
+    ensures { λ r. ⌜ r ≡ marksSquare kind (now (first .entry)) (now (second .entry)) ⌝ }
+{
+    if kind < 4 {
+        return true;
+    }
+    if kind != 7 {
+        return false;
+    }
+    same(first, second)
+}
+
+// Whether a kind is one, marked or not, and the words are exactly the indices that it wants.
 pub fn is_variable(types: usize, kind: u16, first: &[u16], second: &[u16]) -> bool
     ensures { λ r. ⌜ r ≡ isVariable types kind (now (first .entry)) (now (second .entry)) ⌝ }
 {
-    if 3 < kind {
+    if !marks_square(kind, first, second) {
         return false;
     }
-    if !is_wanted(kind == 0, types, first) {
+    if !is_wanted(kind % 4 == 0, types, first) {
         return false;
     }
-    is_wanted(kind != 3, types, second)
+    is_wanted(kind % 4 != 3, types, second)
 }
 
 // Whether the `n` words from `first` on and the `m` from `second` on are exactly the indices that a kind wants. A length word may say anything, so it is tested before the part is taken.
@@ -179,4 +194,18 @@ pub fn names_of(ds: &[u16]) -> Names
         bases: ds[1] as usize,
         variables: ds[2] as usize,
     }
+}
+
+// Whether a word is that of a variable that is declared and marked.
+pub fn is_marked(ds: &[u16], word: u16) -> bool
+    ensures { λ r. ⌜ r ≡ markedWord (now (ds .entry)) word ⌝ }
+{
+    if word / 256 != 26 {
+        return false;
+    }
+    let name = (word % 256) as usize;
+    if word_at(ds, 2) as usize <= name {
+        return false;
+    }
+    4 <= word_at(ds, 2051 + name * 129)
 }

@@ -9,7 +9,7 @@ use Rattle.file.proofs.Decided.{run-code}
 use Rattle.file.proofs.Replayed.{decided}
 use Rattle.file.proofs.Answered.{zeros, untouched}
 use Rattle.file.proofs.Accepting.{accepts, otherwise}
-use Rattle.file.proofs.Keeping.{chooses, chooses-lent, proves, keeps}
+use Rattle.file.proofs.Keeping.{chooses, chooses-lent, exist, exist-lent, proves, keeps}
 
 pub demand1 : Demand1
 demand1 = record {
@@ -32,4 +32,4 @@ demand2 = record {
 }
 
 pub demand3 : Demand3
-demand3 = record { chooses = chooses; chooses-lent = chooses-lent; proves = proves; keeps = keeps; lists = lists }
+demand3 = record { chooses = chooses; chooses-lent = chooses-lent; exist = exist; exist-lent = exist-lent; proves = proves; keeps = keeps; lists = lists }

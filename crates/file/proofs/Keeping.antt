@@ -6,8 +6,9 @@ use Prim.Native.Nat.{ℕ}
 use native.Mathlib.Omega.{arith}
 use lib.ListN.{length}
 use Rattle.algebra.specs.Gaussian.{gaussian}
+use Rattle.algebra.proofs.Gaussian.{gaussian-laws}
 use Rattle.types.specs.Sorts.{Sort}
-use Rattle.meaning.specs.Sorted.{EveryChoice}
+use Rattle.meaning.specs.Sorted.{EveryChoice, SomeUnitary}
 use Rattle.meaning.proofs.Fitting as M
 use Rattle.declarations.specs.Declarations.{contextIn, goodDeclarations}
 use Rattle.declarations.proofs.Entries.{well-formed}
@@ -34,6 +35,13 @@ chooses-lent ds e = M.chooses gaussian (contextIn ds) (well-formed ds e) refl
 
 pub chooses : (bytes : List ℕ) (f : File) → Written bytes f → EveryChoice gaussian (contextOf f)
 chooses bytes f w = rw (context f (w .order)) at (chooses-lent (declarationsOf f) (declared f (w .order .declared) .good))
+
+pub exist-lent : (ds : List ℕ) → goodDeclarations ds ≡ true → SomeUnitary gaussian (contextIn ds)
+unfolding contextIn
+exist-lent ds e = M.unitary-exist gaussian gaussian-laws (contextIn ds) (well-formed ds e) refl
+
+pub exist : (bytes : List ℕ) (f : File) → Written bytes f → SomeUnitary gaussian (contextOf f)
+exist bytes f w = rw (context f (w .order)) at (exist-lent (declarationsOf f) (declared f (w .order .declared) .good))
 
 pub proves : (bytes : List ℕ) (a : AcceptedFile bytes) → Alike (contextOf (a .file)) (a .sort) (a .start .left) (a .start .right)
 proves bytes a = alike-of (a .file) (a .written .order) (T.proves _ (to-run a))

@@ -10,7 +10,7 @@ use Rattle.term.specs.Trees.{Tree, words}
 use Rattle.types.specs.Sorts.{Sort}
 use Rattle.meaning.specs.Choices.{Choice}
 use Rattle.meaning.specs.Meaning.{mean}
-use Rattle.meaning.specs.Sorted.{Fits, EveryChoice, EqualNumbers}
+use Rattle.meaning.specs.Sorted.{Fits, EveryChoice, SomeUnitary, EqualNumbers}
 use Rattle.declarations.specs.Declarations.{contextIn, goodDeclarations}
 use Rattle.rules.specs.Steps.{Sides}
 use Rattle.lent.specs.declared.steps.Step.{Step}
@@ -78,10 +78,13 @@ pub record FileKept (bytes left right : List ℕ) : Type 1 where
 -- every index inside its range .., and every Gaussian integer put into the entries of the variables, with the shapes as declared. Where a file is accepted, or refused only at a step or because its
 -- ends differ, the term that the file gives for each side and what the replay leaves of it are alike in shape and in every such number. For every list of single steps from a typed term .., each
 -- step is answered and done as document 01 fixes, and that term and the one left after the list are alike in the same way." `Alike` says shape and numbers, for every choice that fits;
--- `chooses` says which do, all dimensions, indices and entries that are asked for: of every file of the form, so of every accepted one, and of lent declarations
+-- `chooses` says which do, all dimensions, indices and entries that are asked for: of every file of the form, so of every accepted one, and of lent declarations. 02, CR 7: this "now speaks only of
+-- choices where a marked matrix times its adjoint is the identity, from both sides"; `exist` says that there are such, whatever the rest
 pub record Demand3 : Type 1 where
   pub chooses : (bytes : List ℕ) (f : File) → Written bytes f → EveryChoice gaussian (contextOf f)
   pub chooses-lent : (ds : List ℕ) → goodDeclarations ds ≡ true → EveryChoice gaussian (contextIn ds)
+  pub exist : (bytes : List ℕ) (f : File) → Written bytes f → SomeUnitary gaussian (contextOf f)
+  pub exist-lent : (ds : List ℕ) → goodDeclarations ds ≡ true → SomeUnitary gaussian (contextIn ds)
   pub proves : (bytes : List ℕ) (a : AcceptedFile bytes) → Alike (contextOf (a .file)) (a .sort) (a .start .left) (a .start .right)
   pub keeps : (bytes left right : List ℕ) → PastTypes (replayAnswer bytes left right .code) → FileKept bytes left right
   pub lists : Lists

@@ -11,7 +11,7 @@ use Rattle.term.specs.Parts.{parse, treeIn}
 use Rattle.term.specs.Terms.{maxNames}
 use Rattle.types.specs.Sorts.{Context}
 use Rattle.declarations.specs.declared.constructor.Put.the-variants.{Done, Full}
-use Rattle.declarations.specs.Declarations.{size, typeIn, contextIn, namesIn, isIndex, isVariable, counted, goodDeclarations}
+use Rattle.declarations.specs.Declarations.{size, typeIn, marked, contextIn, namesIn, isIndex, isVariable, counted, goodDeclarations}
 use Rattle.declarations.specs.Put.{started, room, basisPut, variablePut}
 use Rattle.declarations.proofs.Entries.{declarations}
 use Rattle.declarations.proofs.Kept.{started-good, started-types, started-none, basis-put-kept, basis-put-good, variable-put-kept, variable-put-good}
@@ -59,7 +59,7 @@ room-is ds k e = let g = declarations ds e in rw (eq-eqb _ _ (g .long), le-leb _
 has-room : (ds : List ℕ) (k n : ℕ) → goodDeclarations ds ≡ true → getD ds k 0 ≡ n → n < maxNames → room ds k ≡ Done
 has-room ds k n e h l = room-is ds k e ∙ rw (h, ne-eqb n maxNames (λ z. omega arith))
 
-begun : (ds : List ℕ) (N : ℕ) → length ds ≡ size → N ≤ maxNames → Stands (started ds N) N 0 0 (record { types = N; bases = []; variables = []; bound = [] })
+begun : (ds : List ℕ) (N : ℕ) → length ds ≡ size → N ≤ maxNames → Stands (started ds N) N 0 0 (record { types = N; bases = []; variables = []; marks = []; bound = [] })
 begun ds N l h =
     record {
       good = started-good ds N l h;
@@ -84,7 +84,7 @@ one-basis {ds} {N} {b} i s h e =
     }
 
 one-variable : {ds : List ℕ} {N b v : ℕ} {Γ : Context} (x : Variable) → Stands ds N b v Γ → v < maxNames → isVariable N (x .kind) (x .first) (x .second) ≡ true
-    → Stands (variablePut ds (x .kind) (x .first) (x .second)) N b (v + 1) (withVariable Γ (typeIn (x .kind) (treeIn (parse (x .first))) (treeIn (parse (x .second)))))
+    → Stands (variablePut ds (x .kind) (x .first) (x .second)) N b (v + 1) (withVariable Γ (typeIn (x .kind) (treeIn (parse (x .first))) (treeIn (parse (x .second)))) (marked (x .kind)))
 one-variable {ds} {N} {b} {v} x s h e =
     let r = has-room ds 2 v (s .good) (s .variables) h in
     let f : isVariable (getD ds 0 0) (x .kind) (x .first) (x .second) ≡ true = rw (s .types) e in
@@ -102,7 +102,8 @@ same-names : {ds : List ℕ} {N b c v w : ℕ} {Γ Δ : Context} → Stands ds N
 same-names s p q r = record { good = s .good; types = s .types; bases = s .bases ∙ p; variables = s .variables ∙ q; context = s .context ∙ r }
 
 all-bases : {ds : List ℕ} {N b v : ℕ} {Γ : Context} (bs : List (List ℕ)) → Stands ds N b v Γ → b + length bs ≤ maxNames → allIndices N bs ≡ true
-    → Stands (putBases ds bs) N (b + length bs) v (record { types = Γ .types; bases = Γ .bases ++ map (λ i. treeIn (parse i)) bs; variables = Γ .variables; bound = Γ .bound })
+    → Stands (putBases ds bs) N (b + length bs) v
+    (record { types = Γ .types; bases = Γ .bases ++ map (λ i. treeIn (parse i)) bs; variables = Γ .variables; marks = Γ .marks; bound = Γ .bound })
 unfolding putBases allIndices
 all-bases {Γ} [] s h e = same-names s (omega arith) refl (rw append-nil)
 all-bases {N} {Γ} (i ∷ bs) s h e =
@@ -111,12 +112,18 @@ all-bases {N} {Γ} (i ∷ bs) s h e =
 
 all-variables : {ds : List ℕ} {N b v : ℕ} {Γ : Context} (xs : List Variable) → Stands ds N b v Γ → v + length xs ≤ maxNames → allVariables N xs ≡ true
     → Stands (putVariables ds xs) N b (v + length xs)
-    (record { types = Γ .types; bases = Γ .bases; variables = Γ .variables ++ map (λ x. typeIn (x .kind) (treeIn (parse (x .first))) (treeIn (parse (x .second)))) xs; bound = Γ .bound })
+    (record {
+      types = Γ .types;
+      bases = Γ .bases;
+      variables = Γ .variables ++ map (λ x. typeIn (x .kind) (treeIn (parse (x .first))) (treeIn (parse (x .second)))) xs;
+      marks = Γ .marks ++ map (λ x. marked (x .kind)) xs;
+      bound = Γ .bound;
+    })
 unfolding putVariables allVariables
-all-variables {Γ} [] s h e = same-names s refl (omega arith) (rw append-nil)
+all-variables {Γ} [] s h e = same-names s refl (omega arith) (rw (append-nil (Γ .variables), append-nil (Γ .marks)))
 all-variables {N} {Γ} (x ∷ xs) s h e =
     let p = and-eq-true-iff (fits N x) _ .0 e in
-    same-names (all-variables xs (one-variable x s (omega arith) (p .0)) (omega arith) (p .1)) refl (omega arith) (rw append-assoc)
+    same-names (all-variables xs (one-variable x s (omega arith) (p .0)) (omega arith) (p .1)) refl (omega arith) (rw (append-assoc (Γ .variables), append-assoc (Γ .marks)))
 
 -- ---- the declarations of a file whose names are in order
 pub record Declared (ds : List ℕ) (f : File) : Type 0 where

@@ -16,7 +16,7 @@ use Rattle.text.specs.Numbers.{isDigit, allDigits, decimal}
 use Rattle.text.specs.Tokens.{carries, token, spaced, tokens}
 use Rattle.text.proofs.Decimals.{digit-is, decimal-digits}
 use Rattle.text.proofs.Cutting.{allLack}
-use Rattle.format.specs.Files.{Key, Variable, File, keyText, letter, sideLetter, variableText, stepText}
+use Rattle.format.specs.Files.{Key, Variable, File, keyText, letter, sideLetter, indexWords, variableText, stepText}
 use Rattle.format.proofs.Values.{Value, types, basis, variable, left, right, step, end}
 use Rattle.format.proofs.Lines.{Taken, taken}
 use Rattle.format.proofs.Runs.{Run, stop, more}
@@ -63,17 +63,18 @@ tokens-plain (w ∷ ws) = plain-append (token w) (spaced ws) (token-plain w) (sp
 
 letter-plain : (kind : ℕ) → printable (letter kind) ≡ true
 unfolding printable
-letter-plain kind = go (eqb kind 0) (eqb kind 1) (eqb kind 2)
+letter-plain kind = go (eqb kind 0) (eqb kind 1) (eqb kind 2) (eqb kind 3)
   where
-    go : (s t u : Bool) → printable (cond s 83 (cond t 75 (cond u 66 79))) ≡ true
-    go true t u = refl
-    go false true u = refl
-    go false false true = refl
-    go false false false = refl
+    go : (s t u v : Bool) → printable (cond s 83 (cond t 75 (cond u 66 (cond v 79 85)))) ≡ true
+    go true t u v = refl
+    go false true u v = refl
+    go false false true v = refl
+    go false false false true = refl
+    go false false false false = refl
 
 variable-plain : (v : Variable) → plain (variableText v) ≡ true
 unfolding variableText plain
-variable-plain v = and-eq-true-iff (printable (letter (v .kind))) _ .1 (letter-plain (v .kind), spaced-plain (v .first ++ v .second))
+variable-plain v = and-eq-true-iff (printable (letter (v .kind))) _ .1 (letter-plain (v .kind), spaced-plain (indexWords v))
 
 side-plain : (s : Side) (n : ℕ) → plain (sideLetter s ∷ space ∷ decimal n) ≡ true
 unfolding plain

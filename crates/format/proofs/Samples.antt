@@ -11,8 +11,8 @@ use Rattle.term.specs.Terms as T
 use Rattle.term.specs.Terms.{termWords}
 use Rattle.declarations.specs.Declarations.{isIndex, isVariable}
 use Rattle.text.specs.Pieces.{Text}
-use Rattle.format.specs.Files.{File, print, maxBytes, allIndices, allVariables, allSteps, InOrder}
-use Rattle.format.specs.Reading.{fault, read, readOf}
+use Rattle.format.specs.Files.{Variable, variableText, File, print, maxBytes, allIndices, allVariables, allSteps, InOrder}
+use Rattle.format.specs.Reading.{good, wrong, fault, read, variableIn, andVariable, takeVariable, readOf}
 use Rattle.format.proofs.Whole.{reads}
 
 session : Text
@@ -54,3 +54,19 @@ small = omega arith
 the-examples : (readOf session ≡ read says) × (readOf [] ≡ fault 3 1) × (readOf (take 20 session) ≡ fault 3 3) × (readOf (take 18 session) ≡ fault 4 3)
 unfolding session readOf H.read H.word words isIndex
 the-examples = (reads session says .1 (record { printed = printed; order = in-order; small = small }), refl, refl, refl)
+
+-- ---- 02, CR 7: "var=U INDEX". `U 1:0` is the operator of 1:0 and 1:0, marked, and so written; `U` and `U 1:0 1:0` are 7, `U ` is 5
+unitary : Variable
+unitary = record { kind = 7; first = 256 ∷ []; second = 256 ∷ [] }
+
+one-type : File
+one-type = record { types = 1; bases = []; variables = []; left = []; right = []; steps = [] }
+
+the-marks :
+    (variableText unitary ≡ 85 ∷ 32 ∷ 49 ∷ 58 ∷ 48 ∷ [])
+    × (takeVariable one-type (variableIn (85 ∷ 32 ∷ 49 ∷ 58 ∷ 48 ∷ [])) ≡ good (andVariable one-type unitary))
+    × (takeVariable one-type (variableIn (85 ∷ [])) ≡ wrong 7)
+    × (takeVariable one-type (variableIn (85 ∷ 32 ∷ 49 ∷ 58 ∷ 48 ∷ 32 ∷ 49 ∷ 58 ∷ 48 ∷ [])) ≡ wrong 7)
+    × (takeVariable one-type (variableIn (85 ∷ 32 ∷ [])) ≡ wrong 5)
+unfolding unitary one-type variableText variableIn takeVariable isIndex isVariable H.read H.word words
+the-marks = (refl, refl, refl, refl, refl)

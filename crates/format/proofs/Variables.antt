@@ -3,22 +3,22 @@ use mathlib.Core.Path.{_≡_, refl, sym, _∙_, ap}
 use mathlib.Core.Bool.{Bool, true, false, cond, not}
 use mathlib.Core.List.{List, [], _∷_, _++_, append-nil}
 use mathlib.Core.Option.{Option, some, none}
-use Prim.Native.Nat.{ℕ, zero, suc, _<_}
+use Prim.Native.Nat.{ℕ, zero, suc, _%_, _≤_, _<_}
 use native.Mathlib.Omega.{arith}
-use borrow.Author.Tests.{eqb-true}
+use borrow.Author.Tests.{eqb-true, ne-eqb, leb-true, le-leb}
 use lib.Dec.{eqb}
 use lib.ListN.{length, take, drop, length-append, take-append-drop}
 use lib.Seq.{take-length, drop-length, take-append-seam, drop-append-seam}
 use Rattle.term.specs.Trees.{Forest, none as no-tree, _▹_, words, Formed, Formed*}
 use Rattle.term.specs.Parts.{parse, first, part}
 use Rattle.term.proofs.Parsing.{accepted, parse-words}
-use Rattle.declarations.specs.Declarations.{isIndex, isVariable}
-use Rattle.declarations.proofs.Entries.{index-tests, variable-tests, turned}
+use Rattle.declarations.specs.Declarations.{marked, isIndex, isVariable}
+use Rattle.declarations.proofs.Entries.{index-tests, variable-tests, square-told, turned}
 use Rattle.text.specs.Pieces.{Text, space}
 use Rattle.text.specs.Tokens.{spaced, tokens, tokensIn}
 use Rattle.text.proofs.Written.{allKnown, some-tokens, tokens-written}
-use Rattle.format.specs.Files.{Variable, letter, variableText}
-use Rattle.format.specs.Reading.{kindOfLetter, wordsBehind, variableOf, variableIn}
+use Rattle.format.specs.Files.{Variable, letter, indexWords, variableText}
+use Rattle.format.specs.Reading.{kindOfLetter, wordsBehind, variableWith, variableOf, variableIn}
 use Rattle.format.proofs.Known.{Told, index-told, told-read, part-whole, known-append}
 
 empty : (xs : List ℕ) → length xs ≡ 0 → xs ≡ []
@@ -60,24 +60,36 @@ both-told xs ys h k =
 
 -- ---- read
 module _ (N : ℕ) (xs ys : List ℕ) where
-  abbrev Read : ℕ → Type 0
-  Read k = variableOf (kindOfLetter (letter k)) (wordsBehind (spaced (xs ++ ys))) ≡ some (record { kind = k; first = xs; second = ys })
+  abbrev read-as : ℕ → Variable
+  read-as k = record { kind = k; first = xs; second = ys }
 
-  one-read : (k : ℕ) → kindOfLetter (letter k) ≡ some k → eqb k 3 ≡ false → Told xs → ys ≡ [] → Read k
+  abbrev Read : ℕ → Type 0
+  Read k = variableOf (kindOfLetter (letter k)) (wordsBehind (spaced (indexWords (read-as k)))) ≡ some (read-as k)
+
+  one-read : (k : ℕ) → kindOfLetter (letter k) ≡ some k → eqb k 3 ≡ false → marked k ≡ false → Told xs → ys ≡ [] → Read k
   unfolding variableOf
-  one-read k e n h z = rw (e, z, append-nil, behind-read xs h, n, take-length, drop-length)
+  one-read k e n m h z = rw (e, m, z, append-nil xs, behind-read xs h, n, m, take-length, drop-length)
+
+  marked-read : Told xs → xs ≡ ys → Read 7
+  unfolding kindOfLetter variableOf
+  marked-read h z = rw (behind-read xs h, take-length) (ap (λ (l : List ℕ). some (record { kind = 7; first = xs; second = l })) z)
 
   kind-read : (k : ℕ) → isVariable N k xs ys ≡ true → Read k
   unfolding kindOfLetter variableOf wordsBehind spaced
   kind-read zero e = let t = variable-tests N 0 xs ys e in rw (empty xs (eqb-true _ _ (t .1)), empty ys (eqb-true _ _ (t .2)))
-  kind-read (suc zero) e = let t = variable-tests N 1 xs ys e in one-read 1 refl refl (index-told N xs (t .1)) (empty ys (eqb-true _ _ (t .2)))
-  kind-read (suc (suc zero)) e = let t = variable-tests N 2 xs ys e in one-read 2 refl refl (index-told N xs (t .1)) (empty ys (eqb-true _ _ (t .2)))
+  kind-read (suc zero) e = let t = variable-tests N 1 xs ys e in one-read 1 refl refl refl (index-told N xs (t .1)) (empty ys (eqb-true _ _ (t .2)))
+  kind-read (suc (suc zero)) e = let t = variable-tests N 2 xs ys e in one-read 2 refl refl refl (index-told N xs (t .1)) (empty ys (eqb-true _ _ (t .2)))
   kind-read (suc (suc (suc zero))) e =
       let t = variable-tests N 3 xs ys e in
       let i = index-tests N xs (t .1) in
       let b = both-told xs ys (index-told N xs (t .1)) (index-told N ys (t .2)) in
       rw (behind-read (xs ++ ys) b, first-append xs ys (parse xs) refl (i .0) (i .2), take-append-seam, drop-append-seam)
-  kind-read (suc (suc (suc (suc k)))) e = absurd (let t = variable-tests N _ xs ys e in omega arith)
+  kind-read (suc (suc (suc (suc k)))) e = by-mark (suc (suc (suc (suc k)))) (omega arith) e
+    where
+      by-mark : (n : ℕ) → 4 ≤ n → isVariable N n xs ys ≡ true → Read n
+      by-mark n h e =
+          let s = square-told n xs ys (variable-tests N n xs ys e .0) (le-leb 4 n h) in
+          rw (s .0) (marked-read (index-told N xs (variable-tests N 7 xs ys (rw (s .0) at e) .1)) (s .1))
 
 pub variable-read : (N : ℕ) (v : Variable) → isVariable N (v .kind) (v .first) (v .second) ≡ true → variableIn (variableText v) ≡ some v
 unfolding variableIn variableText
@@ -89,32 +101,44 @@ unfolding allKnown
 wanted-known N xs true e = rw (empty xs (eqb-true _ _ e))
 wanted-known N xs false e = index-told N xs e .all-known
 
-variable-known : (N k : ℕ) (xs ys : List ℕ) → isVariable N k xs ys ≡ true → allKnown (xs ++ ys) ≡ true
-variable-known N k xs ys e =
-    let t = variable-tests N k xs ys e in
-    known-append xs ys (wanted-known N xs (eqb k 0) (t .1)) (wanted-known N ys (not (eqb k 3)) (sym (turned (eqb k 3) _ _) ∙ t .2))
+variable-known : (N k : ℕ) (xs ys : List ℕ) → isVariable N k xs ys ≡ true → allKnown (indexWords (record { kind = k; first = xs; second = ys })) ≡ true
+variable-known N k xs ys e = go (marked k)
+  where
+    first-known : allKnown xs ≡ true
+    first-known = wanted-known N xs (eqb (k % 4) 0) (variable-tests N k xs ys e .1)
+
+    second-known : allKnown ys ≡ true
+    second-known = wanted-known N ys (not (eqb (k % 4) 3)) (sym (turned (eqb (k % 4) 3) _ _) ∙ variable-tests N k xs ys e .2)
+
+    go : (m : Bool) → allKnown (cond m xs (xs ++ ys)) ≡ true
+    go true = first-known
+    go false = known-append xs ys first-known second-known
 
 kind-letter : (b k : ℕ) → kindOfLetter b ≡ some k → b ≡ letter k
 unfolding kindOfLetter
-kind-letter b k e = go (eqb b 83) (eqb b 75) (eqb b 66) (eqb b 79) refl refl refl refl e
+kind-letter b k e = go (eqb b 83) (eqb b 75) (eqb b 66) (eqb b 79) (eqb b 85) refl refl refl refl refl e
   where
     is : (m : ℕ) → some m ≡ some k → b ≡ letter m → b ≡ letter k
     is m e h = let z : m ≡ k = cc in rw z at h
 
-    go : (s t u v : Bool) → eqb b 83 ≡ s → eqb b 75 ≡ t → eqb b 66 ≡ u → eqb b 79 ≡ v
-        → cond s (some 0) (cond t (some 1) (cond u (some 2) (cond v (some 3) none))) ≡ some k → b ≡ letter k
-    go true t u v p q r s e = is 0 e (eqb-true _ _ p)
-    go false true u v p q r s e = is 1 e (eqb-true _ _ q)
-    go false false true v p q r s e = is 2 e (eqb-true _ _ r)
-    go false false false true p q r s e = is 3 e (eqb-true _ _ s)
-    go false false false false p q r s e = cc
+    go : (s t u v w : Bool) → eqb b 83 ≡ s → eqb b 75 ≡ t → eqb b 66 ≡ u → eqb b 79 ≡ v → eqb b 85 ≡ w
+        → cond s (some 0) (cond t (some 1) (cond u (some 2) (cond v (some 3) (cond w (some 7) none)))) ≡ some k → b ≡ letter k
+    go true t u v w p q r s x e = is 0 e (eqb-true _ _ p)
+    go false true u v w p q r s x e = is 1 e (eqb-true _ _ q)
+    go false false true v w p q r s x e = is 2 e (eqb-true _ _ r)
+    go false false false true w p q r s x e = is 3 e (eqb-true _ _ s)
+    go false false false false true p q r s x e = is 7 e (eqb-true _ _ x)
+    go false false false false false p q r s x e = cc
 
-made : (k : ℕ) (ws : List ℕ) (v : Variable) → variableOf (some k) (some ws) ≡ some v → (k ≡ v .kind) × (ws ≡ v .first ++ v .second)
+made : (k : ℕ) (ws : List ℕ) (v : Variable) → variableOf (some k) (some ws) ≡ some v → (k ≡ v .kind) × (ws ≡ indexWords v)
 unfolding variableOf
 made k ws v e =
-    let n = cond (eqb k 3) (length (part ws 0)) (length ws) in
-    let z : _≡_ {A = Variable} (record { kind = k; first = take n ws; second = drop n ws }) v = cc in
-    (ap (λ (u : Variable). u .kind) z, sym (take-append-drop n ws) ∙ ap (λ (u : Variable). u .first ++ u .second) z)
+    let z : variableWith k ws ≡ v = cc in
+    (ap (λ (u : Variable). u .kind) z, split (marked k) refl ∙ ap indexWords z)
+  where
+    split : (m : Bool) → marked k ≡ m → ws ≡ indexWords (variableWith k ws)
+    split true m = let h = leb-true 4 k m in rw (m, ne-eqb k 3 (λ z. omega arith)) (sym (take-length ws))
+    split false m = rw (m) (sym (take-append-drop (cond (eqb k 3) (length (part ws 0)) (length ws)) ws))
 
 pub variable-written : (N : ℕ) (s : Text) (v : Variable) → variableIn s ≡ some v → isVariable N (v .kind) (v .first) (v .second) ≡ true → s ≡ variableText v
 unfolding variableIn variableText variableOf
@@ -122,9 +146,9 @@ variable-written N [] v e h = cc
 variable-written N (b ∷ bs) v e h = go (kindOfLetter b) (wordsBehind bs) refl refl e
   where
     go : (o : Option ℕ) (os : Option (List ℕ)) → kindOfLetter b ≡ o → wordsBehind bs ≡ os → variableOf o os ≡ some v
-        → b ∷ bs ≡ letter (v .kind) ∷ spaced (v .first ++ v .second)
+        → b ∷ bs ≡ letter (v .kind) ∷ spaced (indexWords v)
     go none os p q e = cc
     go (some k) none p q e = cc
     go (some k) (some ws) p q e =
         let m = made k ws v e in
-        cc (kind-letter b (v .kind) (rw (m .0) at p), behind-written bs (v .first ++ v .second) (rw (m .1) at q) (variable-known N (v .kind) (v .first) (v .second) h))
+        cc (kind-letter b (v .kind) (rw (m .0) at p), behind-written bs (indexWords v) (rw (m .1) at q) (variable-known N (v .kind) (v .first) (v .second) h))

@@ -11,14 +11,14 @@ use Rattle.term.specs.declared.terms.Names.{Names}
 use Rattle.term.specs.Parts.{parse, treeIn}
 use Rattle.term.specs.Terms.{maxNames, termWords}
 use Rattle.types.specs.Sorts.{Context}
-use Rattle.declarations.specs.Declarations.{isIndex, isVariable, typeIn}
+use Rattle.declarations.specs.Declarations.{isIndex, isVariable, typeIn, marked}
 use Rattle.rules.specs.Steps.{Move}
 use Rattle.lent.specs.Lent.{maxSteps}
 use Rattle.text.specs.Pieces.{Text, space, ended}
 use Rattle.text.specs.Numbers.{decimal}
 use Rattle.text.specs.Tokens.{spaced, tokens}
 
--- a variable's kind (0 scalar, 1 ket, 2 bra, 3 operator) and the words of its indices
+-- a variable's kind (0 scalar, 1 ket, 2 bra, 3 operator, 7 an operator marked as unitary) and the words of its indices
 pub record Variable : Type 0 where
   pub kind : ℕ
   pub first : List ℕ
@@ -46,18 +46,22 @@ keyText Step = 115 ∷ 116 ∷ 101 ∷ 112 ∷ 61 ∷ []
 keyText End = 101 ∷ 110 ∷ 100 ∷ 61 ∷ []
 keyText Other = []
 
--- "var=S, var=K INDEX, var=B INDEX or var=O INDEX INDEX"
+-- "var=S, var=K INDEX, var=B INDEX or var=O INDEX INDEX"; 02, CR 7: "var=U INDEX: an operator on that index"
 abbrev pub letter : ℕ → ℕ
-letter kind = cond (eqb kind 0) 83 (cond (eqb kind 1) 75 (cond (eqb kind 2) 66 79))
+letter kind = cond (eqb kind 0) 83 (cond (eqb kind 1) 75 (cond (eqb kind 2) 66 (cond (eqb kind 3) 79 85)))
 
 -- "SIDE L or R"
 abbrev pub sideLetter : Side → ℕ
 sideLetter Left = 76
 sideLetter Right = 82
 
+-- the index of a marked operator, which is both, is written once
+abbrev pub indexWords : Variable → List ℕ
+indexWords v = cond (marked (v .kind)) (v .first) (v .first ++ v .second)
+
 unfoldable pub variableText : Variable → Text
 unfolding spaced
-variableText v = letter (v .kind) ∷ spaced (v .first ++ v .second)
+variableText v = letter (v .kind) ∷ spaced (indexWords v)
 
 unfoldable pub stepText : Move → Text
 unfolding decimal
@@ -141,5 +145,6 @@ contextOf f = record {
   types = f .types;
   bases = map (λ b. treeIn (parse b)) (f .bases);
   variables = map (λ v. typeIn (v .kind) (treeIn (parse (v .first))) (treeIn (parse (v .second)))) (f .variables);
+  marks = map (λ v. marked (v .kind)) (f .variables);
   bound = [];
 }

@@ -10,7 +10,7 @@ use Rattle.term.specs.declared.parts.Side.{Side}
 use Rattle.term.specs.declared.parts.Side.the-variants.{Left, Right}
 use Rattle.term.specs.Parts.{part}
 use Rattle.term.specs.Terms.{maxNames, termWords}
-use Rattle.declarations.specs.Declarations.{isIndex, isVariable}
+use Rattle.declarations.specs.Declarations.{isIndex, isVariable, marked}
 use Rattle.rules.specs.Steps.{Move}
 use Rattle.lent.specs.Lent.{maxSteps}
 use Rattle.text.specs.Bytes.{badLine}
@@ -63,23 +63,26 @@ full End f = false
 full Other f = false
 
 -- ---- values
--- "var=S, var=K INDEX, var=B INDEX or var=O INDEX INDEX": the tokens stand behind the letter, each behind a space
+-- "var=S, var=K INDEX, var=B INDEX or var=O INDEX INDEX"; 02, CR 7: "var=U INDEX". The tokens stand behind the letter, each behind a space
 unfoldable pub kindOfLetter : ℕ → Option ℕ
-kindOfLetter b = cond (eqb b 83) (some 0) (cond (eqb b 75) (some 1) (cond (eqb b 66) (some 2) (cond (eqb b 79) (some 3) none)))
+kindOfLetter b = cond (eqb b 83) (some 0) (cond (eqb b 75) (some 1) (cond (eqb b 66) (some 2) (cond (eqb b 79) (some 3) (cond (eqb b 85) (some 7) none))))
 
 unfoldable pub wordsBehind : Text → Option (List ℕ)
 unfolding tokensIn
 wordsBehind [] = some []
 wordsBehind (b ∷ bs) = cond (eqb b space) (tokensIn bs) none
 
--- an operator's second index begins where its first one ends
+-- an operator's second index begins where its first one ends; a marked operator's is the first once more
+abbrev pub variableWith : ℕ → List ℕ → Variable
+variableWith kind ws =
+    let n = cond (eqb kind 3) (length (part ws 0)) (length ws) in
+    record { kind = kind; first = take n ws; second = cond (marked kind) ws (drop n ws) }
+
 unfoldable pub variableOf : Option ℕ → Option (List ℕ) → Option Variable
 unfolding part
 variableOf none ws = none
 variableOf (some kind) none = none
-variableOf (some kind) (some ws) =
-    let n = cond (eqb kind 3) (length (part ws 0)) (length ws) in
-    some (record { kind = kind; first = take n ws; second = drop n ws })
+variableOf (some kind) (some ws) = some (variableWith kind ws)
 
 unfoldable pub variableIn : Text → Option Variable
 unfolding variableOf kindOfLetter wordsBehind

@@ -269,7 +269,8 @@ pub extern "C" fn fejogbu_put_basis(ds: &mut [u16], index: &[u16]) -> u64
     put_number(put_basis(ds, index))
 }
 
-// One variable more, of a kind and exactly the indices that it wants. Returns as putting a basis name does.
+// One variable more, of a kind (0 scalar, 1 ket, 2 bra, 3 operator, 7 an operator that is declared unitary, with one index twice) and exactly the indices that it wants. Returns as putting a
+// basis name does.
 #[no_mangle]
 pub extern "C" fn fejogbu_put_variable(
     ds: &mut [u16],

@@ -192,7 +192,7 @@ module _ (ws : List ℕ) where
 
   -- matching looks at no context
   no-context : Context
-  no-context = record { types = 0; bases = []; variables = []; bound = [] }
+  no-context = record { types = 0; bases = []; variables = []; marks = []; bound = [] }
 
   pub left-walked : (p : Pattern) (t : Tree) (c : List Tree) (ps rest : List ℕ) (m : Match) → Holds ws m c → AllFormed c → Formed t → drop (m .at) ws ≡ words t ++ rest
       → inOrder p (length c) ≡ true → made p ≡ true → Walked ws rest ps (matchFrom (patternWords p ++ ps) ws m) (match p t c)

@@ -1,12 +1,13 @@
 -- The definitions of meaning, computed at small dimensions over the Gaussian integers. The answers are worked out by hand from document 01.
 use mathlib.Core.Path.{_≡_, refl}
 use mathlib.Core.List.{List, [], _∷_}
-use Prim.Native.Nat.{ℕ}
+use Prim.Native.Nat.{ℕ, zero, suc, _<_}
+use native.Mathlib.Omega.{arith}
 use lib.IntN.{ℤ, pos, negsuc}
 use lib.ListN.{getD}
 use Rattle.algebra.specs.Sums.{sum}
 use Rattle.algebra.specs.Matrices.{Matrix, number, kronecker-delta, zeros, identity as identity-matrix, unit-column, unit-row, scalar as scalar-matrix, add as add-matrix}
-use Rattle.algebra.specs.Matrices.{scale as scale-matrix, mul, adjoint as adjoint-matrix, kronecker}
+use Rattle.algebra.specs.Matrices.{scale as scale-matrix, mul, adjoint as adjoint-matrix, kronecker, Unitary}
 use Rattle.algebra.specs.Gaussian.{Gaussian, gaussian, add as add-numbers, mul as multiply-numbers, conj}
 use Rattle.term.specs.Heads.{Label, type-name, basis-name, variable, index-product, pair, scalar-one, scalar-sum, scalar-product, conjugate, delta, dot, zero-operator, identity, basis-ket}
 use Rattle.term.specs.Heads.{basis-bra, adjoint, scale, add, tensor, mulk, outer, mulo}
@@ -41,6 +42,7 @@ abbrev Γ : Context
       types = 3;
       bases = type 0 ∷ type 1 ∷ type 0 ∷ type 2 ∷ [];
       variables = operator (type 0) (type 0) ∷ ket (type 1) ∷ scalar ∷ operator (type 0) (type 1) ∷ [];
+      marks = [];
       bound = [];
     }
 
@@ -115,3 +117,35 @@ the-examples :
     × (at (two add (var 0) (var 0)) 1 0 ≡ pos 4 +i negsuc 1)
 unfolding at sum number kronecker-delta zeros identity-matrix unit-column unit-row scalar-matrix add-matrix scale-matrix mul adjoint-matrix kronecker add-numbers multiply-numbers conj
 the-examples = (refl, refl, refl, refl, refl, refl, refl, refl, refl, refl, refl, refl, refl, refl, refl, refl, refl, refl, refl, refl, refl, refl, refl, refl, refl)
+
+-- ---- (0, i; 1, 0) is unitary, and (1, 1; 0, 1), whose product with its adjoint has 2 at row 0, column 0, is not
+abbrev turned : Matrix Gaussian
+turned = from-rows 2 (pos 0 +i pos 0 ∷ pos 0 +i pos 1 ∷ []) (pos 1 +i pos 0 ∷ pos 0 +i pos 0 ∷ [])
+
+abbrev sheared : Matrix Gaussian
+sheared = from-rows 2 (pos 1 +i pos 0 ∷ pos 1 +i pos 0 ∷ []) (pos 0 +i pos 0 ∷ pos 1 +i pos 0 ∷ [])
+
+below-two : (P : ℕ → ℕ → Type 0) → P 0 0 → P 0 1 → P 1 0 → P 1 1 → (i j : ℕ) → i < 2 → j < 2 → P i j
+below-two P a b c d zero zero h k = a
+below-two P a b c d zero (suc zero) h k = b
+below-two P a b c d zero (suc (suc j)) h k = absurd (omega arith)
+below-two P a b c d (suc zero) zero h k = c
+below-two P a b c d (suc zero) (suc zero) h k = d
+below-two P a b c d (suc zero) (suc (suc j)) h k = absurd (omega arith)
+below-two P a b c d (suc (suc i)) j h k = absurd (omega arith)
+
+is-one : (A : Matrix Gaussian) → Matrix Gaussian → ℕ → ℕ → Type 0
+is-one A B i j = mul gaussian A B .entry i j ≡ identity-matrix gaussian 2 .entry i j
+
+turned-unitary : Unitary gaussian turned
+unfolding is-one identity-matrix mul adjoint-matrix sum kronecker-delta add-numbers multiply-numbers conj
+turned-unitary =
+    let other = adjoint-matrix gaussian turned in
+    record {
+      left = record { rows = refl; columns = refl; entries = below-two (is-one other turned) refl refl refl refl };
+      right = record { rows = refl; columns = refl; entries = below-two (is-one turned other) refl refl refl refl };
+    }
+
+sheared-not : mul gaussian sheared (adjoint-matrix gaussian sheared) .entry 0 0 ≡ pos 2 +i pos 0
+unfolding mul adjoint-matrix sum add-numbers multiply-numbers conj
+sheared-not = refl

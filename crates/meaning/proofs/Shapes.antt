@@ -58,6 +58,7 @@ module _ {R : Type 0} (𝓐 : Arithmetic R) where
         dimensions = F .dimensions;
         positions = F .positions;
         matrices = λ a S e. shaped-run χ p S (χ .matrix a) (F .matrices a S e);
+        unitary = F .unitary;
         bounds = go;
       }
     where

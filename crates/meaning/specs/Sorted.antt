@@ -4,10 +4,10 @@ use mathlib.Core.Option.{some}
 use Prim.Native.Nat.{ℕ, _≤_, _<_}
 use lib.ListN.{getElem?}
 use Rattle.algebra.specs.Semirings.{Arithmetic}
-use Rattle.algebra.specs.Matrices.{Matrix, _≈_, HasShape}
+use Rattle.algebra.specs.Matrices.{Matrix, _≈_, HasShape, Unitary}
 use Rattle.algebra.specs.Gaussian.{Gaussian}
 use Rattle.term.specs.Trees.{Tree}
-use Rattle.types.specs.Sorts.{Sort, index, basis, scalar, ket, bra, operator, Context}
+use Rattle.types.specs.Sorts.{Sort, index, basis, scalar, ket, bra, operator, Context, Marked}
 use Rattle.types.specs.Rules.{Index}
 use Rattle.meaning.specs.Choices.{Choice, Given, Meaning}
 use Rattle.meaning.specs.Meaning.{dimension}
@@ -23,21 +23,33 @@ module _ {R : Type 0} (𝓐 : Arithmetic R) where
   Shaped χ (operator σ τ) A = HasShape A (dimension 𝓐 χ σ) (dimension 𝓐 χ τ)
 
   -- 01: "A type name has a dimension from 1 up", "A basis name is an index from 0 below its dimension", "for each variable, the matrix, shaped as declared"; a sum is at an index of its
-  -- dimension
+  -- dimension. And 02, CR 7: "choices where a marked matrix times its adjoint is the identity, from both sides"
   pub record Fits (Γ : Context) (χ : Choice R) : Type 0 where
     pub dimensions : (a : ℕ) → a < Γ .types → 1 ≤ χ .dimension a
     pub positions : (a : ℕ) (σ : Tree) → getElem? (Γ .bases) a ≡ some σ → χ .position a < dimension 𝓐 χ σ
     pub matrices : (a : ℕ) (S : Sort) → getElem? (Γ .variables) a ≡ some S → Shaped χ S (χ .matrix a)
+    pub unitary : (a : ℕ) → Marked Γ a → Unitary 𝓐 (χ .matrix a)
     pub bounds : (a : ℕ) (σ : Tree) → getElem? (Γ .bound) a ≡ some σ → χ .bound a < dimension 𝓐 χ σ
 
   -- Demand 3: "for every dimension from 1 up given to each type name, every index inside its range given to each basis name, and every Gaussian integer put into
-  -- the entries of the variables, with the shapes as declared". None is left out: a choice of exactly these fits, and every range has an index inside
+  -- the entries of the variables, with the shapes as declared". None is left out but where a marked matrix is not unitary: a choice of exactly these fits, and every range has an index
+  -- inside
+  abbrev pub InRange : Context → Choice R → Type 0
+  InRange Γ χ = (a : ℕ) (σ : Tree) → getElem? (Γ .bases) a ≡ some σ → χ .position a < dimension 𝓐 χ σ
+
   abbrev pub EveryChoice : Context → Type 0
   EveryChoice Γ =
       (δ π : ℕ → ℕ) (e : ℕ → ℕ → ℕ → R) → ((a : ℕ) → a < Γ .types → 1 ≤ δ a)
       → (χ : Choice R) × Given δ π e χ
       × ((σ : Tree) → Index Γ σ → 1 ≤ dimension 𝓐 χ σ)
-      × (((a : ℕ) (σ : Tree) → getElem? (Γ .bases) a ≡ some σ → π a < dimension 𝓐 χ σ) → Fits Γ χ)
+      × (InRange Γ χ → ((a : ℕ) → Marked Γ a → Unitary 𝓐 (χ .matrix a)) → Fits Γ χ)
+
+  -- And a mark leaves none of the rest out: whatever the dimensions, the positions and the entries of the unmarked variables, there are entries of the marked ones so that the choice fits
+  abbrev pub SomeUnitary : Context → Type 0
+  SomeUnitary Γ =
+      (δ π : ℕ → ℕ) (e : ℕ → ℕ → ℕ → R) → ((a : ℕ) → a < Γ .types → 1 ≤ δ a)
+      → (u : ℕ → ℕ → ℕ → R) × ((a : ℕ) → (Marked Γ a → ⊥) → u a ≡ e a)
+      × (χ : Choice R) × Given δ π u χ × (InRange Γ χ → Fits Γ χ)
 
   -- what a part of a sort must stand for
   abbrev pub ProperMeaning : Choice R → Sort → Meaning R → Type 0

@@ -37,14 +37,14 @@ module _ (kind : ℕ) (s : Text) (out : List ℕ) where
   words-by : (t : Text) {r : Tokens} {out′ : List ℕ} → wordsIn kind s ≡ tokensIn t → r ≡ toldTokens (tokensIn t) → out′ ≡ stored (parted space t) out 0 → WordsRead kind s out r out′
   words-by t z e o = record { size = ap length o ∙ stored-size (parted space t) out 0; answer = e ∙ ap toldTokens (sym z); front = λ ws k l. rw o (stored-front t ws out (sym z ∙ k) l) }
 
-  pub basis-words : {r : Tokens} {out′ : List ℕ} → kind ≡ 5 → r ≡ toldTokens (tokensIn s) → out′ ≡ stored (parted space s) out 0 → WordsRead kind s out r out′
+  pub basis-words : {r : Tokens} {out′ : List ℕ} → kind ≡ 9 → r ≡ toldTokens (tokensIn s) → out′ ≡ stored (parted space s) out 0 → WordsRead kind s out r out′
   unfolding wordsIn
   basis-words h = words-by s (rw h)
 
-module _ (kind : ℕ) (other : kind ≢ 5) where
+module _ (kind : ℕ) (other : kind ≢ 9) where
   behind : (s : Text) → wordsIn kind s ≡ wordsBehind (drop 1 s)
   unfolding wordsIn
-  behind s = rw (ne-eqb kind 5 other)
+  behind s = rw (ne-eqb kind 9 other)
 
   pub behind-none : (s out : List ℕ) → length s < 2 → WordsRead kind s out (Count 0) out
   unfolding wordsBehind toldTokens

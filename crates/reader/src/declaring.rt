@@ -54,7 +54,7 @@ fn put_code(put: Put) -> usize
     }
 }
 
-// A variable's kind by its letter; 4 for any other byte.
+// A variable's kind by its letter; 8 for any other byte.
 fn kind_of(letter: u8) -> u16
     ensures { λ r. ⌜ r ≡ kindNumber (kindOfLetter letter) ⌝ }
 {
@@ -70,18 +70,21 @@ fn kind_of(letter: u8) -> u16
     if letter == 79 {
         return 3;
     }
-    4
+    if letter == 85 {
+        return 7;
+    }
+    8
 }
 
-// What the k-th key's line names: a variable's kind by its letter, or 5 for a basis; 4 where the letter is none.
+// What the k-th key's line names: a variable's kind by its letter, or 9 for a basis; 8 where the letter is none.
 fn named_kind(k: usize, text: &[u8]) -> u16
     ensures { λ r. ⌜ r ≡ kindIn k (now (text .entry)) ⌝ }
 {
     if k == 1 {
-        return 5;
+        return 9;
     }
     if text.len() == 0 {
-        return 4;
+        return 8;
     }
     kind_of(text[0])
 }
@@ -90,7 +93,7 @@ fn named_kind(k: usize, text: &[u8]) -> u16
 fn read_words(kind: u16, text: &[u8], out: &mut [u16]) -> Tokens
     ensures { λ r. ⌜ WordsRead kind (now (text .entry)) (now (out .entry)) r (now (out .exit)) ⌝ }
 {
-    if kind == 5 {
+    if kind == 9 {
         return read_tokens(text, out);
     }
     if text.len() < 2 {
@@ -112,11 +115,15 @@ fn first_length(kind: u16, words: &[u16]) -> usize
     words.len()
 }
 
+// Puts a basis, or a variable: a marked operator's index is both of its indices.
 fn put_words(ds: &mut [u16], kind: u16, words: &[u16]) -> Put
     ensures { λ r. ⌜ PutWords (now (ds .entry)) kind (now (words .entry)) r (now (ds .exit)) ⌝ }
 {
-    if kind == 5 {
+    if kind == 9 {
         return put_basis(ds, words);
+    }
+    if 4 <= kind {
+        return put_variable(ds, kind, words, words);
     }
     let n = first_length(kind, words);
     put_variable(ds, kind, &words[..n], &words[n..])
@@ -132,7 +139,7 @@ pub fn take_name(k: usize, text: &[u8], line: usize, ds: &mut [u16]) -> Fault
         return refused(6, line);
     }
     let kind = named_kind(k, text);
-    if kind == 4 {
+    if kind == 8 {
         return refused(5, line);
     }
     let mut words = [0u16; 126];

@@ -18,7 +18,7 @@ use Rattle.rules.specs.Table.{Condition, Rule, _⇒_▷_, Line, _∶_, table, f
 use Rattle.rulebook.specs.declared.Row.{Row}
 use Rattle.rulebook.specs.Code.Rows.{patternWords, ruleWords, wordsOf, grouped, linesIn, wordsIn, startAmong, startIn, row, rowFor, rowOf, rowLine, conditionNumber}
 
--- ---- no rule has a number from 184 on
+-- ---- no rule has a number from 192 on
 below : ℕ → List Line → Bool
 below m [] = true
 below m ((n ∶ r) ∷ ls) = ltb n m && below m ls
@@ -30,9 +30,9 @@ find-past m ((k ∶ r) ∷ ls) e n h =
     let p = and-eq-true-iff (ltb k m) _ .0 e in
     rw (ne-eqb n k (λ z. omega (arith, ltb-true k m (p .0), z, h))) (find-past m ls (p .1) n h)
 
-pub line-past : (n : ℕ) → 184 ≤ n → rowLine (rowOf n) ≡ 0
+pub line-past : (n : ℕ) → 192 ≤ n → rowLine (rowOf n) ≡ 0
 unfolding rowLine rowOf ruleOf rowFor below
-line-past n h = rw (find-past 184 table refl n h)
+line-past n h = rw (find-past 192 table refl n h)
 
 -- the rows from a number on, as many as one array holds
 pub line-from : (from n rule : ℕ) → from ≤ rule → rule < from + n → getD (upTo n (λ k. rowLine (rowOf (from + k)))) (rule - from) 0 ≡ rowLine (rowOf rule)
@@ -63,9 +63,9 @@ same-row r s e =
 
 pub row-in : (n : ℕ) → rowIn (rowLine (rowOf n)) ≡ rowOf n
 unfolding allUpTo sameRow below rowLine rowOf ruleOf startAmong grouped word
-row-in n = elim (decLt n 184) [
-  | yes h ↦ same-row _ _ (allUpTo-at 184 (λ k. sameRow (rowIn (rowLine (rowOf k))) (rowOf k)) refl n h)
-  | no h ↦ rw (find-past 184 table refl n (omega arith))
+row-in n = elim (decLt n 192) [
+  | yes h ↦ same-row _ _ (allUpTo-at 192 (λ k. sameRow (rowIn (rowLine (rowOf k))) (rowOf k)) refl n h)
+  | no h ↦ rw (find-past 192 table refl n (omega arith))
 ]
 
 -- ---- groups: a rule is found in its own, and one whose numbers are past every line's has no line
@@ -92,7 +92,7 @@ grouped-past m ((k ∶ r) ∷ ls) e g h =
 
 pub words-past : (g : ℕ) → 4 ≤ g → wordsIn g ≡ []
 unfolding wordsIn wordsOf linesIn below
-words-past g h = ap wordsOf (grouped-past 184 table refl g (omega arith))
+words-past g h = ap wordsOf (grouped-past 192 table refl g (omega arith))
 
 -- ---- the words of an equation stand where its row says
 record Stand (n : ℕ) (ls : List Line) (l r : Pattern) : Type 0 where

@@ -780,7 +780,7 @@ pub const WORDS_FROM_100: [u16; 248] = [
     0xff02, // 143 right #2
 ];
 
-pub const WORDS_FROM_150: [u16; 127] = [
+pub const WORDS_FROM_150: [u16; 139] = [
     // 150 MULO0: 25 14 #0 #1 #2 becomes 14 #0 second #2
     0x1900, // 150 left 25
     0x0e00, // 150 left 14
@@ -922,4 +922,18 @@ pub const WORDS_FROM_150: [u16; 127] = [
     0xff01, // 183 left #1
     0x1c00, // 183 left 28:0
     0x0600, // 183 right 6
+    // 190 UNIT0: 25 18 #0 #0 becomes 15 and the second index of #0
+    0x1900, // 190 left 25
+    0x1200, // 190 left 18
+    0xff00, // 190 left #0
+    0xff00, // 190 left #0
+    0x0f00, // 190 right 15
+    0xfd00, // 190 right second index of #0
+    // 191 UNIT1: 25 #0 18 #0 becomes 15 and the first index of #0
+    0x1900, // 191 left 25
+    0xff00, // 191 left #0
+    0x1200, // 191 left 18
+    0xff00, // 191 left #0
+    0x0f00, // 191 right 15
+    0xfe00, // 191 right first index of #0
 ];

@@ -21,7 +21,7 @@ pub struct Row {
     pub d: u16,
 }
 
-// The row of each number from 0 to 183 in hexadecimal digits: one for the family, two for a, one for b, two each for c and d. A number that is no rule's has 0. The rows, and the
+// The row of each number from 0 to 191 in hexadecimal digits: one for the family, two for a, one for b, two each for c and d. A number that is no rule's has 0. The rows, and the
 // words of the equations, stand in four arrays, fifty numbers each, since a constant array is laid out item by item wherever it is read.
 const ROWS_FROM_0: [u32; 50] = [
     0x00000000, // 0
@@ -182,7 +182,7 @@ const ROWS_FROM_100: [u32; 50] = [
     0x00000000, // 149
 ];
 
-const ROWS_FROM_150: [u32; 34] = [
+const ROWS_FROM_150: [u32; 42] = [
     0x10050300, // 150 MULO0
     0x10850300, // 151 MULO1
     0x11040100, // 152 MULO2
@@ -217,6 +217,14 @@ const ROWS_FROM_150: [u32; 34] = [
     0x17070200, // 181 SUM1
     0x80000000, // 182 SUM2
     0x17950104, // 183 SUM3
+    0x00000000, // 184
+    0x00000000, // 185
+    0x00000000, // 186
+    0x00000000, // 187
+    0x00000000, // 188
+    0x00000000, // 189
+    0x17f40205, // 190 UNIT0
+    0x18540205, // 191 UNIT1
 ];
 
 // The digits of a rule's row, and 0 for a number that is no rule's.
@@ -232,7 +240,7 @@ fn line_of(rule: usize) -> u32
     if rule < 150 {
         return ROWS_FROM_100[rule - 100];
     }
-    if rule < 184 {
+    if rule < 192 {
         return ROWS_FROM_150[rule - 150];
     }
     0

@@ -188,6 +188,8 @@ module _ {R : Type 0} {𝓐 : Arithmetic R} (𝓡 : StarSemiring 𝓐) {Γ : Con
       equation (means-181 𝓡 W F) ⨾
       distributing-means ⨾
       equation (means-183 𝓡 W F) ⨾
+      equation (Meanings.means-190 𝓡 W F) ⨾
+      equation (Meanings.means-191 𝓡 W F) ⨾
       tt
 
   pub rule-means : (n : ℕ) (r : Rule) → ruleOf n ≡ some r → RuleMeans r

@@ -213,6 +213,8 @@ module _ {Γ : Context} (W : WellFormed Γ) where
       equation (Types.keeps-181 W) ⨾
       distributing-keeps ⨾
       equation (Types.keeps-183 W) ⨾
+      equation (Types.keeps-190 W) ⨾
+      equation (Types.keeps-191 W) ⨾
       tt
 
   pub rule-keeps : (n : ℕ) (r : Rule) → ruleOf n ≡ some r → RuleKeeps r

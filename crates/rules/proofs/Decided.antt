@@ -20,13 +20,14 @@ use Rattle.types.specs.Sorts.{Sort, ket, bra, operator, Context}
 use Rattle.types.specs.Rules.{_⊢_∶_, WellFormed}
 use Rattle.types.proofs.Sound.{by-sort}
 use Rattle.rules.specs.Patterns.{Pattern, #_, first, second, _⟨⟩, _⟨_⟩, _⟨_∣_⟩}
-use Rattle.rules.specs.Table.{Condition, any, a-ket, a-bra, an-operator, unused, Which, child, child-i, Summand, plain, scaled, Rule, _⇒_▷_, spreading, removing, absorbing, merging}
+use Rattle.rules.specs.Table.{Condition, any, a-ket, a-bra, an-operator, unused, marked, Which, child, child-i, Summand, plain, scaled, Rule, _⇒_▷_, spreading, removing, absorbing, merging}
 use Rattle.rules.specs.Table.{collecting, swapping, distributing}
 use Rattle.rules.specs.Instances.{Filled, hole, first-of, second-of, over-none, over-one, over-two, Holds, ACSymbol, scalar-sums, scalar-products, sums, Loose, loose-chain}
 use Rattle.rules.specs.Instances.{loose-delta, Sum, of-scalars, of-arrays, Picks, spread, summand, factor, Instance, equals, spreads, removes, absorbs, merges, collects, swaps}
 use Rattle.rules.specs.Instances.{distributes}
 use Rattle.rules.specs.Rewrite.{nameless, isHead, sortOf, wanted, fill, match, holes, satisfied, filled, Opened, behind, open-at, spreadAt, removeAt, absorbAt, mergeAt, swapAt}
 use Rattle.rules.specs.Rewrite.{distributeAt, Multiple, no-multiple, multiple, multipleOf, collected, collectBefore, collectAt, isChain, isLoose, place, usable, rewrite}
+use Rattle.rules.proofs.Marks.{marked-variable}
 use Rattle.rules.proofs.Known.{either, is-head, head-is}
 use Rattle.rules.proofs.Good.{below, asked, flat, asksNone, ofWords, Good, both, all-three, fine, good}
 use Rattle.rules.proofs.Lines.{not-so, sort-is, fill-is, condition-is}
@@ -83,6 +84,7 @@ condition-agrees Γ θ c a a-ket h = rw (a 0 (ltb-true 0 (length c) h))
 condition-agrees Γ θ c a a-bra h = rw (a 0 (ltb-true 0 (length c) h))
 condition-agrees Γ θ c a an-operator h = rw (a 0 (ltb-true 0 (length c) h))
 condition-agrees Γ θ c a unused h = rw (a 1 (ltb-true 1 (length c) h))
+condition-agrees Γ θ c a marked h = rw (a 0 (ltb-true 0 (length c) h))
 
 equals-found : (Γ : Context) (k : Condition) (l r : Pattern) (θ : ℕ → Tree) → Good (k ⇒ l ▷ r) → satisfied Γ k θ ≡ true
     → filled Γ k r (match l (fill Γ θ l) []) ≡ some (fill Γ θ r)
@@ -173,6 +175,7 @@ module _ {Γ : Context} (W : WellFormed Γ) (c : List Tree) where
   condition-holds an-operator (inl n) b w = absurd (not-so n)
   condition-holds an-operator (inr all) b w = operator-of _ (hole-typed all 0 b) w
   condition-holds unused o b w = w
+  condition-holds marked o b w = marked-variable Γ (holes c 0) w
 
 equals-sound : {Γ : Context} → WellFormed Γ → {i j : ℕ} {t q : Tree} {S : Sort} (k : Condition) (l r : Pattern) → Good (k ⇒ l ▷ r) → Formed t → Γ ⊢ t ∶ S → i ≡ 0 → j ≡ 0
     → filled Γ k r (match l t []) ≡ some q → Instance Γ (k ⇒ l ▷ r) i j t q

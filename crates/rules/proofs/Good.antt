@@ -6,7 +6,7 @@ use Prim.Native.Nat.{ℕ, suc}
 use lib.Dec.{eqb, leb, ltb}
 use Rattle.types.specs.Inside.{binds}
 use Rattle.rules.specs.Patterns.{Pattern, #_, first, second, _⟨⟩, _⟨_⟩, _⟨_∣_⟩}
-use Rattle.rules.specs.Table.{Condition, any, a-ket, a-bra, an-operator, unused, Rule, _⇒_▷_, spreading, removing, absorbing, merging, collecting, swapping, distributing, ruleOf}
+use Rattle.rules.specs.Table.{Condition, any, a-ket, a-bra, an-operator, unused, marked, Rule, _⇒_▷_, spreading, removing, absorbing, merging, collecting, swapping, distributing, ruleOf}
 use Rattle.rules.specs.Rewrite.{nameless}
 use Rattle.rules.proofs.Known.{isOwn}
 use Rattle.rules.proofs.Every.{rule-passes}
@@ -47,6 +47,7 @@ asked a-ket n = ltb 0 n
 asked a-bra n = ltb 0 n
 asked an-operator n = ltb 0 n
 asked unused n = ltb 1 n
+asked marked n = ltb 0 n
 
 -- A left side whose heads do not bind: what its holes hold stands where the whole does. Else no type of it is asked for
 unfoldable pub flat : Pattern → Bool
@@ -72,6 +73,7 @@ ofWords a-ket = false
 ofWords a-bra = false
 ofWords an-operator = false
 ofWords unused = true
+ofWords marked = true
 
 -- ---- every rule
 unfoldable pub good : Rule → Bool

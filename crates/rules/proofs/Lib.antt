@@ -1,4 +1,5 @@
 -- The laws of rules and steps that the crates above cite.
+pub mod Marks
 pub mod Lines
 pub mod Types
 pub mod Meanings

@@ -6,8 +6,9 @@ use Prim.Native.Nat.{ℕ}
 use native.Mathlib.Omega.{arith}
 use Rattle.algebra.specs.Semirings.{Arithmetic, StarSemiring}
 use Rattle.algebra.specs.Matrices.{Matrix, _≈_}
-use Rattle.term.specs.Trees.{Tree}
-use Rattle.types.specs.Sorts.{Sort, Context}
+use Rattle.term.specs.Heads.{variable}
+use Rattle.term.specs.Trees.{Tree, node, none as no-children}
+use Rattle.types.specs.Sorts.{Sort, Context, Marked}
 use Rattle.types.specs.Rules.{_⊢_∶_, WellFormed}
 use Rattle.types.proofs.Complete.{complete}
 use Rattle.meaning.specs.Choices.{Choice, a-term, an-index, a-basis}
@@ -15,7 +16,8 @@ use Rattle.meaning.specs.Meaning.{first, second, plus, total, times, product, m
 use Rattle.rules.specs.Patterns.{Pattern}
 use Rattle.rules.specs.Instances.{Filled, hole, first-of, second-of, over-none, over-one, over-two, isUnused, Holds}
 use Rattle.rules.specs.Rewrite.{sortOf, wanted, fill, satisfied}
-use Rattle.rules.specs.Table.{Condition, any, a-ket, a-bra, an-operator, unused, Rule, _⇒_▷_, spreading, removing, absorbing, merging, collecting, swapping, distributing, table, find}
+use Rattle.rules.specs.Table.{Condition, any, a-ket, a-bra, an-operator, unused, marked, Rule, _⇒_▷_, spreading, removing, absorbing, merging, collecting, swapping, distributing, table, find}
+use Rattle.rules.proofs.Marks.{is-marked}
 
 -- where the parts in the holes must meet a condition
 abbrev pub Given : Context → Condition → (ℕ → Tree) → Type 0 → Type 0
@@ -24,6 +26,7 @@ Given Γ a-ket θ A = wanted a-ket (sortOf Γ (θ 0)) ≡ true → A
 Given Γ a-bra θ A = wanted a-bra (sortOf Γ (θ 0)) ≡ true → A
 Given Γ an-operator θ A = wanted an-operator (sortOf Γ (θ 0)) ≡ true → A
 Given Γ unused θ A = isUnused (θ 1) ≡ true → A
+Given Γ marked θ A = (a : ℕ) → θ 0 ≡ node (variable a) no-children → Marked Γ a → A
 
 -- a kind that the part does not have
 pub not-so : false ≡ true → ⊥
@@ -50,6 +53,7 @@ module _ {Γ : Context} (W : WellFormed Γ) where
   condition-is a-bra θ w = rw (sort-is (w .1))
   condition-is an-operator θ w = rw (sort-is (w .2))
   condition-is unused θ w = w
+  condition-is marked θ w = rw (w .1) (is-marked Γ (w .0) (w .2))
 
 module _ (Γ : Context) where
   -- what is to hold of the two sides of a pattern rule, whatever its holes hold
@@ -76,6 +80,7 @@ module _ (Γ : Context) where
       by-condition a-bra law w = law θ S (condition-is W a-bra θ w)
       by-condition an-operator law w = law θ S (condition-is W an-operator θ w)
       by-condition unused law w = law θ S w
+      by-condition marked law w = law θ S (w .0) (w .1) (w .2)
 
   -- the right side has the sort of the left
   abbrev pub Keeps : ℕ → Type 0

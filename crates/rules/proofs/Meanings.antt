@@ -3,9 +3,10 @@ use mathlib.Core.Path.{_≡_, sym, _∙_, ap}
 use Prim.Native.Nat.{ℕ, _<_}
 use native.Mathlib.Nat.{one-mul, mul-one}
 use Rattle.algebra.specs.Semirings.{Arithmetic, StarSemiring}
+use Rattle.algebra.specs.Matrices.{identity, Unitary}
 use Rattle.algebra.proofs.Semirings as Semirings
 use Rattle.algebra.proofs.Deltas as Deltas
-use Rattle.algebra.proofs.Alike.{≈-refl, ≈-sym, ≈-trans, scale-≈}
+use Rattle.algebra.proofs.Alike.{≈-refl, ≡→≈, ≈-sym, ≈-trans, scale-≈}
 use Rattle.algebra.proofs.Shapes.{conformable}
 use Rattle.algebra.proofs.Linear as Linear
 use Rattle.algebra.proofs.Products as Products
@@ -13,13 +14,14 @@ use Rattle.algebra.proofs.Scalars as Scalars
 use Rattle.algebra.proofs.Kronecker as Kronecker
 use Rattle.algebra.proofs.Combined.{zeros-mul, mul-zeros, zeros-kronecker, kronecker-zeros, number-scalar, scalar-≈, scalar-is, scale-0, adjoint-number, number-both, scale-both}
 use Rattle.algebra.proofs.Combined.{kronecker-both, mixed-column, mixed-row, regroup, unit-inner, both-deltas}
-use Rattle.term.specs.Trees.{Tree}
-use Rattle.types.specs.Sorts.{Sort, basis, ket, bra, operator, Context}
+use Rattle.term.specs.Trees.{Tree, node, none}
+use Rattle.term.specs.Heads.{variable}
+use Rattle.types.specs.Sorts.{Sort, basis, ket, bra, operator, Context, Marked}
 use Rattle.types.specs.Rules.{_⊢_∶_, sca-0, sca-delta, sca-mul, sca-conj, sca-dot, pair-base, ket-0, ket-base, ket-adj, ket-scr, ket-mulk, ket-tsr, bra-0, bra-base, bra-adj, bra-scr}
 use Rattle.types.specs.Rules.{bra-mulb, bra-tsr, opt-0, opt-1, opt-adj, opt-scr, opt-outer, opt-mulo, opt-tsr, WellFormed}
 use Rattle.types.proofs.Proper.{proper}
-use Rattle.meaning.specs.Choices.{Choice}
-use Rattle.meaning.specs.Meaning.{stands}
+use Rattle.meaning.specs.Choices.{Choice, a-term}
+use Rattle.meaning.specs.Meaning.{stands, names, meaning, meaningOf}
 use Rattle.meaning.specs.Sorted.{Fits, ProperMeaning}
 use Rattle.meaning.proofs.Shapes.{shape}
 use Rattle.rules.specs.Patterns.{firstIndex, secondIndex}
@@ -439,3 +441,16 @@ module _ {R : Type 0} {𝓐 : Arithmetic R} (𝓡 : StarSemiring 𝓐) {Γ : Con
   unfolding value
   means-162 θ S (opt-mulo (opt-tsr a b g h) (opt-mulo (opt-tsr c d k l) e)) =
       regroup 𝓡 _ _ _ (conformable (its (opt-tsr c d k l)) (its e)) (Kronecker.mixed-product 𝓡 _ _ _ _ (conformable (its b) (its d)))
+
+  -- ---- operators declared unitary
+  unitary-at : {t : Tree} (a : ℕ) → t ≡ node (variable a) none → Marked Γ a → Unitary 𝓐 (stands 𝓐 Γ χ t .matrix)
+  unfolding stands names meaning meaningOf a-term
+  unitary-at a e m = rw e (F .unitary a m)
+
+  pub means-190 : Means Γ 𝓡 χ 190
+  unfolding value
+  means-190 θ S a e m (opt-mulo (opt-adj b) c) = ≈-trans (unitary-at a e m .left) (≡→≈ (ap (identity 𝓐) (operator-columns b)))
+
+  pub means-191 : Means Γ 𝓡 χ 191
+  unfolding value
+  means-191 θ S a e m (opt-mulo b (opt-adj c)) = ≈-trans (unitary-at a e m .right) (≡→≈ (ap (identity 𝓐) (operator-rows b)))

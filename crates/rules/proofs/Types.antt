@@ -5,6 +5,7 @@ use Rattle.types.specs.Rules.{_⊢_∶_, every-none, every-more, sca-0, sca-1, 
 use Rattle.types.specs.Rules.{ket-mulk, ket-tsr, bra-0, bra-base, bra-adj, bra-scr, bra-add, bra-mulb, bra-tsr, opt-0, opt-1, opt-adj, opt-scr, opt-add, opt-outer, opt-mulo, opt-tsr}
 use Rattle.types.specs.Rules.{bound-var, sum-over, WellFormed}
 use Rattle.types.proofs.Indices.{index-is}
+use Rattle.types.proofs.Complete.{unique}
 use Rattle.types.proofs.Proper.{proper}
 use Rattle.rules.proofs.Lines.{not-so, sort-is, Keeps}
 
@@ -312,3 +313,10 @@ module _ {Γ : Context} (W : WellFormed Γ) where
 
   pub keeps-183 : Keeps Γ 183
   keeps-183 θ S k (sum-over a (sca-delta b c) h n) = sca-1
+
+  -- ---- operators declared unitary
+  pub keeps-190 : Keeps Γ 190
+  keeps-190 θ S a e m (opt-mulo {σ = σ} {ρ = ρ} (opt-adj b) c) = let same : σ ≡ ρ = cc (unique W b c) in rw (sort-is W b, ← same) (opt-1 (proper W b .1))
+
+  pub keeps-191 : Keeps Γ 191
+  keeps-191 θ S a e m (opt-mulo {σ = σ} {ρ = ρ} b (opt-adj c)) = let same : σ ≡ ρ = cc (unique W b c) in rw (sort-is W b, ← same) (opt-1 (proper W b .0))

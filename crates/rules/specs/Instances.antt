@@ -3,12 +3,12 @@ use mathlib.Core.Path.{_≡_}
 use mathlib.Core.Bool.{Bool, true}
 use Prim.Native.Nat.{ℕ, _+_, _<_}
 use Rattle.words.specs.Listed.{lacks}
-use Rattle.term.specs.Heads.{Label, scalar-zero, scalar-one, scalar-sum, scalar-product, delta, scale, add, big-sum, bound-basis, word}
+use Rattle.term.specs.Heads.{Label, variable, scalar-zero, scalar-one, scalar-sum, scalar-product, delta, scale, add, big-sum, bound-basis, word}
 use Rattle.term.specs.Trees.{Tree, Forest, node, none, _▹_, _⧺_, count, words}
-use Rattle.types.specs.Sorts.{Sort, ket, bra, operator, Context}
+use Rattle.types.specs.Sorts.{Sort, ket, bra, operator, Context, Marked}
 use Rattle.types.specs.Rules.{_⊢_∶_}
 use Rattle.rules.specs.Patterns.{Pattern, #_, first, second, _⟨⟩, _⟨_⟩, _⟨_∣_⟩, firstIndex, secondIndex}
-use Rattle.rules.specs.Table.{Condition, any, a-ket, a-bra, an-operator, unused, Which, child, child-i, Summand, plain, scaled, Rule, _⇒_▷_, spreading, removing, absorbing, merging}
+use Rattle.rules.specs.Table.{Condition, any, a-ket, a-bra, an-operator, unused, marked, Which, child, child-i, Summand, plain, scaled, Rule, _⇒_▷_, spreading, removing, absorbing, merging}
 use Rattle.rules.specs.Table.{collecting, swapping, distributing}
 
 -- A side of an equation with the parts θ in its holes. Where it names an index of what hole k holds, that part has a type, and the index is the type's: 002's
@@ -26,13 +26,14 @@ unfoldable pub isUnused : Tree → Bool
 unfolding lacks words word
 isUnused s = lacks (word (bound-basis 0) 0) (words s)
 
--- the part in hole 0 is of the kind that the rule wants: 002's "K : K(σ) ⇒"; 02, CR 1, "where s does not use this 27's own basis"
+-- the part in hole 0 is of the kind that the rule wants: 002's "K : K(σ) ⇒"; 02, CR 1, "where s does not use this 27's own basis"; CR 7, "for such a only"
 abbrev pub Holds : Context → Condition → (ℕ → Tree) → Type 0
 Holds Γ any θ = Unit {0}
 Holds Γ a-ket θ = (σ : Tree) × (Γ ⊢ θ 0 ∶ ket σ)
 Holds Γ a-bra θ = (σ : Tree) × (Γ ⊢ θ 0 ∶ bra σ)
 Holds Γ an-operator θ = (σ : Tree) × (τ : Tree) × (Γ ⊢ θ 0 ∶ operator σ τ)
 Holds Γ unused θ = isUnused (θ 1) ≡ true
+Holds Γ marked θ = (a : ℕ) × (θ 0 ≡ node (variable a) none) × Marked Γ a
 
 -- "of a 7, 8 or 20"
 pub data ACSymbol : Label → Type 0 where

@@ -9,12 +9,12 @@ use lib.ListN.{length, getD}
 use Rattle.words.specs.Listed.{orElse}
 use Rattle.words.specs.Words.{sameWords}
 use Rattle.term.specs.Heads.{Label, type-name, basis-name, variable, index-product, pair, scalar-zero, scalar-one, scalar-sum, scalar-product, conjugate, delta, dot, zero-ket, zero-bra}
-use Rattle.term.specs.Heads.{zero-operator, identity, basis-ket, basis-bra, adjoint, scale, add, tensor, mulk, mulb, outer, mulo, big-sum, bound-basis, word}
+use Rattle.term.specs.Heads.{zero-operator, identity, basis-ket, basis-bra, adjoint, scale, add, tensor, mulk, mulb, outer, mulo, big-sum, bound-basis, headOf, word}
 use Rattle.term.specs.Trees.{Tree, Forest, node, none, _▹_, _⧺_, count, words}
 use Rattle.types.specs.Sorts.{Sort, index, basis, scalar, ket, bra, operator, Context}
 use Rattle.types.specs.TypeOf.{Inferred, typed, untyped, typeOf}
 use Rattle.rules.specs.Patterns.{Pattern, #_, first, second, _⟨⟩, _⟨_⟩, _⟨_∣_⟩, no-index, firstIndex, secondIndex}
-use Rattle.rules.specs.Table.{Condition, any, a-ket, a-bra, an-operator, unused, Which, child, child-i, Summand, plain, scaled, Rule, _⇒_▷_, spreading, removing, absorbing, merging}
+use Rattle.rules.specs.Table.{Condition, any, a-ket, a-bra, an-operator, unused, marked, Which, child, child-i, Summand, plain, scaled, Rule, _⇒_▷_, spreading, removing, absorbing, merging}
 use Rattle.rules.specs.Table.{collecting, swapping, distributing}
 use Rattle.rules.specs.Instances.{isUnused, spread, factor}
 
@@ -92,6 +92,7 @@ wanted a-ket S = isKet S
 wanted a-bra S = isBra S
 wanted an-operator S = isOperator S
 wanted unused S = true
+wanted marked S = true
 
 -- ---- patterns
 -- a pattern with trees in its holes
@@ -128,14 +129,21 @@ match (l ⟨ p ∣ q ⟩) (node m (t ▹ u ▹ v ▹ f)) c = refused
 abbrev pub holes : List Tree → ℕ → Tree
 holes c k = getD c k no-index
 
+-- a variable that is declared unitary
+unfoldable pub isMarked : Context → Tree → Bool
+unfolding headOf
+isMarked Γ (node l none) = eqb (headOf l 0 .0) 26 && getD (Γ .marks) (headOf l 0 .1) false
+isMarked Γ (node l (t ▹ f)) = false
+
 -- whether what the holes hold meets the condition
 unfoldable pub satisfied : Context → Condition → (ℕ → Tree) → Bool
-unfolding isUnused
+unfolding isUnused isMarked
 satisfied Γ any θ = true
 satisfied Γ a-ket θ = wanted a-ket (sortOf Γ (θ 0))
 satisfied Γ a-bra θ = wanted a-bra (sortOf Γ (θ 0))
 satisfied Γ an-operator θ = wanted an-operator (sortOf Γ (θ 0))
 satisfied Γ unused θ = isUnused (θ 1)
+satisfied Γ marked θ = isMarked Γ (θ 0)
 
 unfoldable pub filled : Context → Condition → Pattern → Option (List Tree) → Option Tree
 filled Γ k r refused = refused

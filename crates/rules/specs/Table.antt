@@ -1,5 +1,5 @@
--- The 122 rules as data, by the numbers of document 01 ("The rules by number"), each with its name.
--- Each line is read against source document 002, tables 1 to 11; 180 to 183 against document 02, CR 1.
+-- The 124 rules as data, by the numbers of document 01 ("The rules by number"), each with its name.
+-- Each line is read against source document 002, tables 1 to 11; 180 to 183 against document 02, CR 1; 190 and 191 against CR 7.
 use mathlib.Core.Bool.{cond}
 use mathlib.Core.List.{List, [], _∷_}
 use mathlib.Core.Option.{Option, some, none}
@@ -10,9 +10,9 @@ use Rattle.term.specs.Heads.{basis-bra, adjoint, scale, add, tensor, mulk, mulb
 use Rattle.rules.specs.Patterns.{Pattern, #_, first, second, _⟨⟩, _⟨_⟩, _⟨_∣_⟩}
 
 -- What must hold of the parts in the holes, where the left side does not tell: of what kind that in hole 0 is, 002's "K : K(σ) ⇒" in SCRK0, SCRB0 and SCRO0; that the one in hole 1 does
--- not use the basis that the part binds, in 183
+-- not use the basis that the part binds, in 183; that the one in hole 0 is a variable declared unitary, in 190 and 191
 pub data Condition : Type 0 where
-  any a-ket a-bra an-operator unused : Condition
+  any a-ket a-bra an-operator unused marked : Condition
 
 -- which child is the sum that is spread over: always the same, or child i
 pub data Which : Type 0 where
@@ -188,6 +188,9 @@ table =
     181 {- SUM1 -} ∶ big-sum ⟨ # 0 ∣ outer ⟨ basis-ket ⟨ bound-basis 0 ⟨⟩ ⟩ ∣ basis-bra ⟨ bound-basis 0 ⟨⟩ ⟩ ⟩ ⟩ ▷ identity ⟨ # 0 ⟩ ∷
     182 {- SUM2 -} ∶ distributing ∷
     183 {- SUM3 -} ∶ unused ⇒ big-sum ⟨ # 0 ∣ delta ⟨ # 1 ∣ bound-basis 0 ⟨⟩ ⟩ ⟩ ▷ scalar-one ⟨⟩ ∷
+    -- operators declared unitary
+    190 {- UNIT0 -} ∶ marked ⇒ mulo ⟨ adjoint ⟨ # 0 ⟩ ∣ # 0 ⟩ ▷ identity ⟨ second 0 ⟩ ∷
+    191 {- UNIT1 -} ∶ marked ⇒ mulo ⟨ # 0 ∣ adjoint ⟨ # 0 ⟩ ⟩ ▷ identity ⟨ first 0 ⟩ ∷
     []
 
 -- the rule of a number, if there is one

@@ -9,7 +9,7 @@ use lib.ListN.{getD}
 use Rattle.term.specs.Trees.{words}
 use Rattle.typebook.specs.Code.Shapes.{shapeOf, numberOf}
 use Rattle.declarations.specs.Declarations.{variableAt, basisIn, variableIn, goodDeclarations}
-use Rattle.declarations.proofs.Entries.{kind, firstWords, secondWords, kind-0, kind-1, kind-2, kind-3, GoodVariable, basis-good, variable-good}
+use Rattle.declarations.proofs.Entries.{kindWord, kind, firstWords, secondWords, kind-0, kind-1, kind-2, kind-3, GoodVariable, basis-good, variable-good}
 use Rattle.shapes.specs.Reading.{basisIndex, secondOf, variableIndex, variableClass, sideIn}
 
 pub basis-declared : (ds : List ℕ) (a : ℕ) → (goodDeclarations ds ≡ true) × (a < getD ds 1 0) → basisIndex ds a ≡ words (basisIn ds a)
@@ -20,14 +20,14 @@ module _ (ds : List ℕ) (a : ℕ) (h : (goodDeclarations ds ≡ true) × (a < g
   good : GoodVariable ds a
   good = variable-good ds a h
 
-  first : (right : Bool) → secondOf right (kind ds a) ≡ 0 → variableIndex ds right a ≡ firstWords ds a
+  first : (right : Bool) → secondOf right (kindWord ds a) ≡ 0 → variableIndex ds right a ≡ firstWords ds a
   unfolding variableIndex
   first right e =
       let x : variableAt a + 1 + 0 ≡ variableAt a + 1 = omega arith in
       let y : variableAt a + 3 + 0 * 63 ≡ variableAt a + 3 = omega arith in
       rw (e, x, y)
 
-  second : secondOf true (kind ds a) ≡ 1 → variableIndex ds true a ≡ secondWords ds a
+  second : secondOf true (kindWord ds a) ≡ 1 → variableIndex ds true a ≡ secondWords ds a
   unfolding variableIndex
   second e =
       let x : variableAt a + 1 + 1 ≡ variableAt a + 2 = omega arith in
@@ -40,7 +40,7 @@ module _ (ds : List ℕ) (a : ℕ) (h : (goodDeclarations ds ≡ true) × (a < g
   class-by (suc zero) k = rw (k, kind-1 ds a k)
   class-by (suc (suc zero)) k = rw (k, kind-2 ds a k)
   class-by (suc (suc (suc zero))) k = rw (k, kind-3 ds a k)
-  class-by (suc (suc (suc (suc j)))) k = absurd (omega (arith, good .known))
+  class-by (suc (suc (suc (suc j)))) k = absurd (omega arith)
 
   pub class-declared : variableClass ds a ≡ numberOf (shapeOf (variableIn ds a) .class)
   class-declared = class-by (kind ds a) refl
@@ -55,7 +55,7 @@ module _ (ds : List ℕ) (a : ℕ) (h : (goodDeclarations ds ≡ true) × (a < g
   side-by (suc (suc zero)) k false n = absurd (n (rw (kind-2 ds a k)))
   side-by (suc (suc (suc zero))) k true n = rw (kind-3 ds a k) (second (rw k) ∙ sym (good .columns-good k .same))
   side-by (suc (suc (suc zero))) k false n = rw (kind-3 ds a k) (first false refl ∙ sym (good .rows-good (omega arith) .same))
-  side-by (suc (suc (suc (suc j)))) k right n = absurd (omega (arith, good .known))
+  side-by (suc (suc (suc (suc j)))) k right n = absurd (omega arith)
 
   pub side-declared : (right : Bool) → sideIn right (shapeOf (variableIn ds a)) ≢ [] → variableIndex ds right a ≡ sideIn right (shapeOf (variableIn ds a))
   side-declared = side-by (kind ds a) refl

@@ -20,7 +20,7 @@ use Rattle.shapes.specs.Reading.{secondOf, declaredIndex, leafIndex, var
 -- a variable has two indices at most
 pub second-few : (right : Bool) (kind : ℕ) {k : ℕ} → k ≡ secondOf right kind → k ≤ 1
 unfolding secondOf
-second-few right kind e = go right (eqb kind 3) e
+second-few right kind e = go right (eqb (kind % 4) 3) e
   where
     go : (r t : Bool) {k : ℕ} → k ≡ cond r (cond t 1 0) 0 → k ≤ 1
     go true true e = omega arith

@@ -26,7 +26,7 @@ basisIndex ds a = indexAt ds (basisAt a) (basisAt a + 1)
 
 -- a variable's first index (0), or its second (1), which only an operator has, on the right
 unfoldable pub secondOf : Bool → ℕ → ℕ
-secondOf right kind = cond right (cond (eqb kind 3) 1 0) 0
+secondOf right kind = cond right (cond (eqb (kind % 4) 3) 1 0) 0
 
 unfoldable pub variableIndex : List ℕ → Bool → ℕ → List ℕ
 variableIndex ds right a =
@@ -38,9 +38,9 @@ variableIndex ds right a =
 unfoldable pub declaredIndex : List ℕ → Bool → ℕ → List ℕ
 declaredIndex ds right w = cond (eqb (w / 256) 3) (basisIndex ds (w % 256)) (cond (eqb (w / 256) 26) (variableIndex ds right (w % 256)) [])
 
--- classes are numbered as kinds are, from the scalars' on
+-- classes are numbered as kinds are, from the scalars' on; a mark is no part of a kind
 unfoldable pub variableClass : List ℕ → ℕ → ℕ
-variableClass ds a = let kind = getD ds (variableAt a) 0 in cond (ltb kind 4) (3 + kind) 3
+variableClass ds a = 3 + getD ds (variableAt a) 0 % 4
 
 -- ---- of a part that begins at an offset
 -- where its first child begins, and the second behind it. Where no first one does, the second is past the end, so that no word is read twice

@@ -36,8 +36,7 @@ fn variable_class(ds: &[u16], name: usize) -> u16
     requires { ⌜ name < 256 ⌝ }
     ensures { λ r. ⌜ r ≡ variableClass (now (ds .entry)) name ⌝ }
 {
-    let kind = word_at(ds, 2051 + name * 129);
-    if kind < 4 { 3 + kind } else { 3 }
+    3 + word_at(ds, 2051 + name * 129) % 4
 }
 
 // An adjoint's class: a ket's for a bra's and the other way round.
@@ -99,7 +98,7 @@ fn second_of(right: bool, kind: u16) -> usize
     ensures { λ r. ⌜ r ≡ secondOf right kind ⌝ }
 {
     if right {
-        if kind == 3 {
+        if kind % 4 == 3 {
             return 1;
         }
     }

@@ -1,5 +1,6 @@
 // The rules that are one equation: the part is matched against the left side, and the right side is built.
 use crate::building::build_side;
+use declarations::is_marked;
 use families::writing::NO_INSTANCE;
 use families::writing::Rewritten;
 use lent::steps::Step;
@@ -9,6 +10,7 @@ use rulebook::Row;
 use rulebook::copy_from;
 use shapes::class_of;
 use term::heads::OWN_BASIS;
+use words::word_at;
 ghost use mathlib.Core.Path.{_≡_};
 ghost use mathlib.Core.Bool.{true};
 ghost use mathlib.Core.Logic.{_⊎_};
@@ -36,7 +38,7 @@ fn is_without(ws: &[u16], word: u16) -> bool
     true
 }
 
-// Whether the parts in the holes meet the condition of a rule: that in hole 0 is of a kind, or that in hole 1 does not use the basis that the part binds.
+// Whether the parts in the holes meet the condition of a rule: that in hole 0 is of a kind or a marked variable, or that in hole 1 does not use the basis that the part binds.
 fn is_met(ds: &[u16], ws: &[u16], found: Match, condition: u16) -> bool
     requires { ⌜ ((x : Caught (now ds) (now ws) found) × (k : Condition) × (condition ≡ conditionNumber k) × ((ofWords k ≡ true) ⊎ AllSorted x) × (asked k (found .held) ≡ true)) ⌝ }
     ensures { λ r. ⌜ ((x : Caught (now (ds .entry)) (now (ws .entry)) found) (k : Condition)
@@ -51,6 +53,9 @@ fn is_met(ds: &[u16], ws: &[u16], found: Match, condition: u16) -> bool
         return is_without(&ws[start..end], OWN_BASIS);
     }
     let from = found.starts[0];
+    if condition == 5 {
+        return is_marked(ds, word_at(ws, from));
+    }
     // classes are numbered as kinds are, from the scalars' 3 on
     class_of(ds, &ws[from..], 0, 64) == 3 + condition
 }

@@ -85,6 +85,7 @@ module _ {Γ : Context} (W : WellFormed Γ) where
         variables = W .variables;
         basis-index = λ a σ e. index-in (inBodies bs Γ) refl (W .basis-index a σ e);
         variable-type = λ a S e. let v = W .variable-type a S e in (v .0, proper-in (inBodies bs Γ) refl S (v .1));
+        marked-square = W .marked-square;
       }
 
   pub bind-well : (s : Tree) → WellFormed (bind s Γ)

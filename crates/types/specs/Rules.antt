@@ -9,7 +9,7 @@ use Rattle.term.specs.Heads.{type-name, basis-name, variable, index-product, pa
 use Rattle.term.specs.Heads.{zero-operator, identity, basis-ket, basis-bra, adjoint, scale, add, tensor, mulk, mulb, outer, mulo, bound-basis, big-sum}
 use Rattle.term.specs.Trees.{Tree, Forest, node, none, _▹_}
 use Rattle.term.specs.Terms.{maxNames, maxBodies, IsTerm}
-use Rattle.types.specs.Sorts.{Sort, index, basis, scalar, ket, bra, operator, IsType, Context, bind, countsOf, _⊠_, Short}
+use Rattle.types.specs.Sorts.{Sort, index, basis, scalar, ket, bra, operator, IsType, Context, Marked, bind, countsOf, _⊠_, Short}
 
 infix 3 _∶_⊣_
 infix 3 _∶*_⊣_
@@ -88,13 +88,14 @@ Proper Γ (ket σ) = Index Γ σ
 Proper Γ (bra σ) = Index Γ σ
 Proper Γ (operator σ τ) = Index Γ σ × Index Γ τ
 
--- 004's WF: what is declared is declared properly, and 01: "Names are 0 to 31"
+-- 004's WF: what is declared is declared properly; 01: "Names are 0 to 31"; 02, CR 7: "a mark on anything but an operator with two equal indices is 7"
 pub record WellFormed (Γ : Context) : Type 0 where
   pub types : Γ .types ≤ maxNames
   pub bases : length (Γ .bases) ≤ maxNames
   pub variables : length (Γ .variables) ≤ maxNames
   pub basis-index : (a : ℕ) (σ : Tree) → getElem? (Γ .bases) a ≡ some σ → Index Γ σ
   pub variable-type : (a : ℕ) (S : Sort) → getElem? (Γ .variables) a ≡ some S → IsType S × Proper Γ S
+  pub marked-square : (a : ℕ) → Marked Γ a → (σ : Tree) × (getElem? (Γ .variables) a ≡ some (operator σ σ))
 
 -- ---- a typed term of document 01's form
 pub record Typed (Γ : Context) (S : Sort) (t : Tree) : Type 0 where

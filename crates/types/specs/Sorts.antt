@@ -1,7 +1,9 @@
 -- Sorts, and the context that declarations make.
+use mathlib.Core.Path.{_≡_}
+use mathlib.Core.Bool.{Bool, true, false}
 use mathlib.Core.List.{List, _∷_}
 use Prim.Native.Nat.{ℕ, _≤_}
-use lib.ListN.{length}
+use lib.ListN.{length, getD}
 use Rattle.term.specs.declared.terms.Names.{Names}
 use Rattle.term.specs.Heads.{index-product}
 use Rattle.term.specs.Trees.{Tree, node, none, _▹_, words}
@@ -23,20 +25,25 @@ IsType (ket σ) = Unit {0}
 IsType (bra σ) = Unit {0}
 IsType (operator σ τ) = Unit {0}
 
--- What is declared: how many type names, the index of each basis name, the type of each variable. And where a part stands: what the sums over a basis around it have for an index, whatever it
--- is, the innermost first
+-- What is declared: how many type names, the index of each basis name, the type of each variable, and which variables are marked as unitary. And where a part stands: what the sums over a
+-- basis around it have for an index, whatever it is, the innermost first
 pub record Context : Type 0 where
   pub types : ℕ
   pub bases : List Tree
   pub variables : List Sort
+  pub marks : List Bool
   pub bound : List Tree
 
 -- the same with these around, and in the body of a sum over s
 abbrev pub inBodies : List Tree → Context → Context
-inBodies bs Γ = record { types = Γ .types; bases = Γ .bases; variables = Γ .variables; bound = bs }
+inBodies bs Γ = record { types = Γ .types; bases = Γ .bases; variables = Γ .variables; marks = Γ .marks; bound = bs }
 
 abbrev pub bind : Tree → Context → Context
 bind s Γ = inBodies (s ∷ Γ .bound) Γ
+
+-- 02, CR 7: "The declarations gain a mark". It is no part of a variable's type
+abbrev pub Marked : Context → ℕ → Type 0
+Marked Γ a = getD (Γ .marks) a false ≡ true
 
 -- how many names of each kind are declared
 abbrev pub countsOf : Context → Names

@@ -101,7 +101,7 @@ module _ (ds : List ℕ) (a : ℕ) (h : (goodDeclarations ds ≡ true) × (a < g
       rw (kind-2 ds a e, z, ap (λ (s : Shape). s .left) (both-there ds rowsAt columnsAt both top st r), variable-good ds a h .rows-good (λ z. omega arith) .same)
   shape-by (suc (suc (suc zero))) e top st r =
       rw (kind-3 ds a e) (both-there ds rowsAt columnsAt both top st r ∙ rw (variable-good ds a h .rows-good (λ z. omega arith) .same, variable-good ds a h .columns-good e .same))
-  shape-by (suc (suc (suc (suc k)))) e top st r = absurd (omega (arith, variable-good ds a h .known))
+  shape-by (suc (suc (suc (suc k)))) e top st r = absurd (omega arith)
 
   variable-holds : Holds ds (some (shapeOf (variableIn ds a))) (variableEntry ds a)
   unfolding variableEntry

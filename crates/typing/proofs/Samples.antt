@@ -15,7 +15,7 @@ abbrev σ : Tree
 σ = node (type-name 0) none
 
 abbrev Γ : Context
-Γ = record { types = 1; bases = σ ∷ σ ∷ []; variables = ket σ ∷ operator σ σ ∷ scalar ∷ bra σ ∷ []; bound = [] }
+Γ = record { types = 1; bases = σ ∷ σ ∷ []; variables = ket σ ∷ operator σ σ ∷ scalar ∷ bra σ ∷ []; marks = []; bound = [] }
 
 abbrev typeIn : List ℕ → Inferred
 typeIn ws = typeOf Γ 0 (treeIn (parse ws))

@@ -92,7 +92,7 @@ fn variable_entry(ds: &[u16], a: usize) -> Entry
     let m = ds[at + 2] as usize;
     Entry {
         typed: true,
-        sorted: sorted_by(ds[at], n, m),
+        sorted: sorted_by(ds[at] % 4, n, m),
         left: Run { at: at + 3, len: n },
         right: Run {
             at: at + 66,

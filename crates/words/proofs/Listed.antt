@@ -6,9 +6,11 @@ use mathlib.Core.List.{List, [], _∷_, _++_}
 use mathlib.Core.Option as O
 use Prim.Native.Nat.{ℕ, zero, suc, _+_, _≤_, _<_}
 use native.Mathlib.Numerals.{add-one}
+use native.Mathlib.Decide.{decLe}
 use native.Mathlib.Omega.{arith}
-use borrow.Author.Tests.{not-true, not-false}
-use lib.ListN.{length, drop, getD, getElem?, drop-of-length-le}
+use borrow.Author.Tests.{not-true, not-false, lt-ltb, le-ltb}
+use lib.Dec.{ltb}
+use lib.ListN.{length, drop, getD, getElem?, drop-of-length-le, List·getD-eq-default}
 use lib.Seq.{drop-cons}
 use Rattle.words.specs.Listed.{upTo, allUpTo, all}
 
@@ -65,6 +67,12 @@ module _ {A : Type 0} where
   drop-upTo zero f k h = absurd (omega arith)
   drop-upTo (suc n) f zero h = refl
   drop-upTo (suc n) f (suc k) h = drop-upTo n (λ a. f (suc a)) k (omega arith)
+
+pub upTo-mark : (n : ℕ) (f : ℕ → Bool) (a : ℕ) → getD (upTo n f) a false ≡ (ltb a n && f a)
+upTo-mark n f a = elim (decLe n a) [
+  | yes h ↦ rw (le-ltb a n h) (List·getD-eq-default (upTo n f) false (rw length-upTo h))
+  | no h ↦ rw (lt-ltb a n (omega arith)) (upTo-read n f false a (omega arith))
+]
 
 -- ---- tests
 pub allUpTo-at : (n : ℕ) (f : ℕ → Bool) → allUpTo n f ≡ true → (a : ℕ) → a < n → f a ≡ true

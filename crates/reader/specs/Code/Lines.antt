@@ -8,7 +8,6 @@ use Prim.Native.Nat.{ℕ, _+_, _≤_}
 use lib.Dec.{eqb}
 use lib.ListN.{length, take, drop, getD}
 use Rattle.term.specs.declared.parts.Side.{Side}
-use Rattle.term.specs.Parts.{part}
 use Rattle.term.specs.Terms.{termWords}
 use Rattle.declarations.specs.declared.constructor.Put as P
 use Rattle.declarations.specs.declared.constructor.Put.the-variants as Puts
@@ -20,8 +19,8 @@ use Rattle.text.specs.Pieces.{Text, space, parted, fieldsFrom}
 use Rattle.text.specs.Numbers.{atMost}
 use Rattle.text.specs.declared.tokens.Tokens.{Tokens}
 use Rattle.text.specs.Tokens.{tokensIn, toldTokens}
-use Rattle.format.specs.Files.{Key, Step, Variable, File, namesOf, maxField}
-use Rattle.format.specs.Reading.{Line, wrong, good, full, kindOfLetter, wordsBehind, andBasis, andVariable, takeTerm, takeValue, sideIn, moveIn}
+use Rattle.format.specs.Files.{Key, Step, File, namesOf, maxField}
+use Rattle.format.specs.Reading.{Line, wrong, good, full, kindOfLetter, wordsBehind, variableWith, andBasis, andVariable, takeTerm, takeValue, sideIn, moveIn}
 use Rattle.format.specs.Kept.{padded, stepsOf}
 use Rattle.reader.specs.declared.faults.Fault.{Fault}
 use Rattle.reader.specs.declared.stepping.Sided.{Sided}
@@ -53,16 +52,16 @@ putCode Puts.WrongSize = 7
 putCode Puts.Full = 6
 putCode Puts.Bad = 7
 
--- ---- names. What a line names is a kind: a variable's, or 5 for a basis; 4 for none
+-- ---- names. What a line names is a kind: a variable's, or 9 for a basis; 8 for none
 unfoldable pub kindNumber : Option ℕ → ℕ
-kindNumber none = 4
+kindNumber none = 8
 kindNumber (some k) = k
 
 unfoldable pub kindIn : ℕ → Text → ℕ
-kindIn k s = cond (eqb k 1) 5 (cond (eqb (length s) 0) 4 (kindNumber (kindOfLetter (getD s 0 0))))
+kindIn k s = cond (eqb k 1) 9 (cond (eqb (length s) 0) 8 (kindNumber (kindOfLetter (getD s 0 0))))
 
 unfoldable pub wordsIn : ℕ → Text → Option (List ℕ)
-wordsIn kind s = cond (eqb kind 5) (tokensIn s) (wordsBehind (drop 1 s))
+wordsIn kind s = cond (eqb kind 9) (tokensIn s) (wordsBehind (drop 1 s))
 
 -- the words of what is named, read to the front of a slice
 pub record WordsRead (kind : ℕ) (s : Text) (out : List ℕ) (r : Tokens) (out′ : List ℕ) : Type 0 where
@@ -70,22 +69,18 @@ pub record WordsRead (kind : ℕ) (s : Text) (out : List ℕ) (r : Tokens) (out�
   pub answer : r ≡ toldTokens (wordsIn kind s)
   pub front : (ws : List ℕ) → wordsIn kind s ≡ some ws → length ws ≤ length out → take (length ws) out′ ≡ ws
 
--- a variable of some words, split as in `variableOf`
-abbrev pub variableWith : ℕ → List ℕ → Variable
-variableWith kind ws = let n = cond (eqb kind 3) (length (part ws 0)) (length ws) in record { kind = kind; first = take n ws; second = drop n ws }
-
 -- whether words are those of a kind, and the words and the file with one name more
 unfoldable pub isNamed : ℕ → ℕ → List ℕ → Bool
-isNamed N kind ws = cond (eqb kind 5) (isIndex N ws) (let v = variableWith kind ws in isVariable N kind (v .first) (v .second))
+isNamed N kind ws = cond (eqb kind 9) (isIndex N ws) (let v = variableWith kind ws in isVariable N kind (v .first) (v .second))
 
 unfoldable pub namePut : List ℕ → ℕ → List ℕ → List ℕ
-namePut ds kind ws = cond (eqb kind 5) (basisPut ds ws) (let v = variableWith kind ws in variablePut ds kind (v .first) (v .second))
+namePut ds kind ws = cond (eqb kind 9) (basisPut ds ws) (let v = variableWith kind ws in variablePut ds kind (v .first) (v .second))
 
 unfoldable pub andName : File → ℕ → List ℕ → File
-andName f kind ws = cond (eqb kind 5) (andBasis f ws) (andVariable f (variableWith kind ws))
+andName f kind ws = cond (eqb kind 9) (andBasis f ws) (andVariable f (variableWith kind ws))
 
 pub record PutWords (ds : List ℕ) (kind : ℕ) (ws : List ℕ) (r : P.Put) (out : List ℕ) : Type 0 where
-  pub answer : r ≡ answer (room ds (cond (eqb kind 5) 1 2)) (isNamed (getD ds 0 0) kind ws)
+  pub answer : r ≡ answer (room ds (cond (eqb kind 9) 1 2)) (isNamed (getD ds 0 0) kind ws)
   pub words : out ≡ leaves r (namePut ds kind ws) ds
 
 -- a term's line: its fault, and the words of the term, with zeros behind

@@ -1,4 +1,4 @@
--- The code's lines are the definition's, computed for all 184 numbers, and no rule has a number past them.
+-- The code's lines are the definition's, computed for all 192 numbers, and no rule has a number past them.
 use mathlib.Core.Path.{sym}
 use borrow.Author.Needs.{needs}
 use Rattle.words.specs.Listed.{upTo}
@@ -24,7 +24,7 @@ returns-3 c = line-from 100 50 (c .before .before .before .args .rule) (c .befor
 
 returns-4 : tie.Need-returns-4
 unfolding upTo rowLine rowOf ruleOf startAmong grouped word
-returns-4 c = line-from 150 34 (c .before .before .before .before .args .rule) (c .before .if3 .left) (c .if4 .taken)
+returns-4 c = line-from 150 42 (c .before .before .before .before .args .rule) (c .before .if3 .left) (c .if4 .taken)
 
 returns-5 : tie.Need-returns-5
 returns-5 c = sym (line-past _ (c .if4 .left))

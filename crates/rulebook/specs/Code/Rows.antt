@@ -8,7 +8,7 @@ use lib.Dec.{eqb}
 use lib.ListN.{length}
 use Rattle.term.specs.Heads.{Label, word}
 use Rattle.rules.specs.Patterns.{Pattern, #_, first, second, _⟨⟩, _⟨_⟩, _⟨_∣_⟩}
-use Rattle.rules.specs.Table.{Condition, any, a-ket, a-bra, an-operator, unused, Which, child, child-i, Summand, plain, scaled, Rule, _⇒_▷_, spreading, removing, absorbing, merging}
+use Rattle.rules.specs.Table.{Condition, any, a-ket, a-bra, an-operator, unused, marked, Which, child, child-i, Summand, plain, scaled, Rule, _⇒_▷_, spreading, removing, absorbing, merging}
 use Rattle.rules.specs.Table.{collecting, swapping, distributing, Line, _∶_, table, ruleOf}
 use Rattle.rulebook.specs.declared.Row.{Row}
 
@@ -69,6 +69,7 @@ conditionNumber a-ket = 1
 conditionNumber a-bra = 2
 conditionNumber an-operator = 3
 conditionNumber unused = 4
+conditionNumber marked = 5
 
 -- the child that is spread over, by its number; 2 is child i
 abbrev pub whichNumber : Which → ℕ

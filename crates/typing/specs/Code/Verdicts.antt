@@ -77,7 +77,7 @@ variableEntry ds a =
     let at = variableAt a in
     let n = getD ds (at + 1) 0 in
     let m = getD ds (at + 2) 0 in
-    record { typed = true; sorted = sortedBy (getD ds at 0) n m; left = runOf (at + 3) n; right = runOf (at + 66) m }
+    record { typed = true; sorted = sortedBy (getD ds at 0 % 4) n m; left = runOf (at + 3) n; right = runOf (at + 66) m }
 
 unfoldable pub entryOf : List ℕ → ℕ → E.Entry
 entryOf ds w =

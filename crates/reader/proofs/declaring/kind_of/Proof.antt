@@ -23,7 +23,15 @@ returns-4 c = rw (ne-eqb _ _ (c .before .before .before .if1 .left), ne-eqb _ _ 
 
 returns-5 : tie.Need-returns-5
 unfolding kindNumber kindOfLetter
-returns-5 c = rw (ne-eqb _ _ (c .before .before .before .if1 .left), ne-eqb _ _ (c .before .before .if2 .left), ne-eqb _ _ (c .before .if3 .left), ne-eqb _ _ (c .if4 .left))
+returns-5 c =
+    let at = c .before .before in
+    rw (ne-eqb _ _ (at .before .before .if1 .left), ne-eqb _ _ (at .before .if2 .left), ne-eqb _ _ (at .if3 .left), ne-eqb _ _ (c .before .if4 .left), c .if5 .taken)
+
+returns-6 : tie.Need-returns-6
+unfolding kindNumber kindOfLetter
+returns-6 c =
+    let at = c .before .before in
+    rw (ne-eqb _ _ (at .before .before .if1 .left), ne-eqb _ _ (at .before .if2 .left), ne-eqb _ _ (at .if3 .left), ne-eqb _ _ (c .before .if4 .left), ne-eqb _ _ (c .if5 .left))
 
 pub kind-of-spec : {M : Type 1} → statement M
-kind-of-spec = tie.close (tie.spec returns returns-2 returns-3 returns-4 returns-5)
+kind-of-spec = tie.close (tie.spec returns returns-2 returns-3 returns-4 returns-5 returns-6)
