@@ -17,12 +17,12 @@ use Rattle.words.proofs.Runs.{same-words-eq}
 use Rattle.term.specs.Heads.{Label, type-name, index-product, labelled, word, heads, reading, read}
 use Rattle.term.specs.Trees.{Tree, Forest, node, none, _▹_, count, _⧺_, words, words*, Formed, Formed*}
 use Rattle.term.specs.Parts.{parse, first, part, treeIn}
-use Rattle.term.specs.Terms.{maxIndex, maxNames}
+use Rattle.term.specs.Terms.{maxIndex, maxNames, indexWord, allIndexWords}
 use Rattle.term.proofs.Parsing.{accepted, parse-node}
 use Rattle.term.proofs.Scan.{part-front}
 use Rattle.types.specs.Sorts.{scalar, ket, bra, operator, index, IsType, Context, countsOf, Short}
 use Rattle.types.specs.Rules.{_⊢_∶_, type-var, base-prod, Index, Proper, WellFormed}
-use Rattle.declarations.specs.Declarations.{size, counted, indexWord, indexWords, indexIn, typeIn, basisAt, variableAt, basisIn, variableIn, contextIn, namesIn, goodIndex, isIndex}
+use Rattle.declarations.specs.Declarations.{size, counted, indexIn, typeIn, basisAt, variableAt, basisIn, variableIn, contextIn, namesIn, goodIndex, isIndex}
 use Rattle.declarations.specs.Declarations.{marked, markIn, marksSquare, isVariable, goodBasis, goodVariable, goodDeclarations}
 
 -- ---- the words of an index
@@ -62,10 +62,10 @@ all-four a b c d h =
     let q = all-three b c d (p .1) in
     (p .0, q .0, q .1, q .2)
 
-pub index-tests : (N : ℕ) (ws : List ℕ) → isIndex N ws ≡ true → (0 < length ws) × (length ws ≤ maxIndex) × (length (part ws 0) ≡ length ws) × (indexWords N ws ≡ true)
+pub index-tests : (N : ℕ) (ws : List ℕ) → isIndex N ws ≡ true → (0 < length ws) × (length ws ≤ maxIndex) × (length (part ws 0) ≡ length ws) × (allIndexWords N ws ≡ true)
 unfolding isIndex
 index-tests N ws e =
-    let a = all-four (ltb 0 (length ws)) (leb (length ws) maxIndex) (eqb (length (part ws 0)) (length ws)) (indexWords N ws) e in
+    let a = all-four (ltb 0 (length ws)) (leb (length ws) maxIndex) (eqb (length (part ws 0)) (length ws)) (allIndexWords N ws) e in
     (ltb-true _ _ (a .0), leb-true _ _ (a .1), eqb-true _ _ (a .2), a .3)
 
 module _ (N kind : ℕ) (xs ys : List ℕ) where
@@ -121,7 +121,7 @@ pub record GoodIndex (N : ℕ) (ds : List ℕ) (at n : ℕ) : Type 0 where
   pub same : words (indexIn ds at n) ≡ take n (drop at ds)
   pub short : Short (indexIn ds at n)
   pub formed : Formed (indexIn ds at n)
-  pub all : indexWords N (words (indexIn ds at n)) ≡ true
+  pub all : allIndexWords N (words (indexIn ds at n)) ≡ true
 
 first-tree : (f : Forest) → Formed* f → 0 < length (first f) → (words (treeIn f) ≡ first f) × Formed (treeIn f)
 unfolding first treeIn Formed
@@ -174,15 +174,15 @@ module _ (Γ : Context) where
   mutual
     unfolding words count Formed all indexWord
 
-    index-tree : (t : Tree) → Formed t → Short t → indexWords (Γ .types) (words t) ≡ true → Γ ⊢ t ∶ index t
+    index-tree : (t : Tree) → Formed t → Short t → allIndexWords (Γ .types) (words t) ≡ true → Γ ⊢ t ∶ index t
     index-tree (node l cs) h s e =
         let p = and-eq-true-iff (indexWord (Γ .types) (word l (count cs))) _ .0 e in
         index-node Γ (node-at (word l (count cs)) _ refl (p .0) (h .0)) (index-forest cs (h .1) (omega arith) (p .1)) s
 
-    index-forest : (f : Forest) → Formed* f → length (words* f) ≤ maxIndex → indexWords (Γ .types) (words* f) ≡ true → Indices Γ (count f) f
+    index-forest : (f : Forest) → Formed* f → length (words* f) ≤ maxIndex → allIndexWords (Γ .types) (words* f) ≡ true → Indices Γ (count f) f
     index-forest none h s e = no-more
     index-forest (t ▹ f) h s e =
-        let p = and-eq-true-iff (indexWords (Γ .types) (words t)) _ .0 (rw all-++ at e) in
+        let p = and-eq-true-iff (allIndexWords (Γ .types) (words t)) _ .0 (rw all-++ at e) in
         let l = length-append (words t) (words* f) in
         one-more (index-tree t (h .0) (omega arith) (p .0)) (index-forest f (h .1) (omega arith) (p .1))
 

@@ -17,7 +17,7 @@ use Rattle.words.specs.Words.{sameWords}
 use Rattle.term.specs.declared.terms.Names.{Names}
 use Rattle.term.specs.Trees.{Tree}
 use Rattle.term.specs.Parts.{parse, part, treeIn}
-use Rattle.term.specs.Terms.{maxIndex, maxNames}
+use Rattle.term.specs.Terms.{maxIndex, maxNames, indexWord, allIndexWords}
 use Rattle.types.specs.Sorts.{Sort, scalar, ket, bra, operator, Context, inBodies}
 
 abbrev pub size : ℕ
@@ -75,18 +75,11 @@ abbrev pub contextAt : List ℕ → List Tree → Context
 contextAt ds bs = inBodies bs (contextIn ds)
 
 -- ---- when they are good. 01, code 7: "a declaration is not exactly the indices wanted, or breaks a limit or a name"
--- a word of an index: a declared type name, or a product's head
-unfoldable pub indexWord : ℕ → ℕ → Bool
-indexWord N w = cond (eqb (w / 256) 1) (ltb (w % 256) N) (eqb w 512)
-
-abbrev pub indexWords : ℕ → List ℕ → Bool
-indexWords N ws = all (indexWord N) ws
-
 -- words that are exactly one index
 unfoldable pub isIndex : ℕ → List ℕ → Bool
 unfolding indexWord all part
 isIndex N ws =
-    ltb 0 (length ws) && (leb (length ws) maxIndex && (eqb (length (part ws 0)) (length ws) && indexWords N ws))
+    ltb 0 (length ws) && (leb (length ws) maxIndex && (eqb (length (part ws 0)) (length ws) && allIndexWords N ws))
 
 -- 02, CR 7: "a mark on anything but an operator with two equal indices is 7"
 unfoldable pub marksSquare : ℕ → List ℕ → List ℕ → Bool

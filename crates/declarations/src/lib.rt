@@ -4,6 +4,8 @@ pub mod constructor;
 use term::heads::INDEX_PRODUCT;
 use term::parts::part_end;
 use term::terms::Names;
+use term::terms::are_index_words;
+use term::terms::is_index_word;
 use words::same;
 use words::word_at;
 ghost use mathlib.Core.Path.{_≡_};
@@ -12,35 +14,11 @@ ghost use Prim.Native.Nat.{_+_, _≤_, _<_};
 ghost use lib.Dec.{eqb, leb};
 ghost use lib.ListN.{length, take, drop, getD};
 ghost use Rattle.words.specs.Listed.{allUpTo};
-ghost use Rattle.declarations.specs.Declarations.{indexWord, indexWords, isIndex, marksSquare, isVariable, counted, goodDeclarations, namesIn, markedWord};
+ghost use Rattle.declarations.specs.Declarations.{isIndex, marksSquare, isVariable, counted, goodDeclarations, namesIn, markedWord};
 ghost use Rattle.declarations.specs.Code.Entries.{goodEntry};
 
 // The words of all declarations, used or not.
 pub const SIZE: usize = 6179;
-
-// Whether a word may stand in an index over so many types.
-fn is_index_word(types: usize, word: u16) -> bool
-    ensures { λ r. ⌜ r ≡ indexWord types word ⌝ }
-{
-    if word / 256 == 1 {
-        let name = (word % 256) as usize;
-        return name < types;
-    }
-    word == INDEX_PRODUCT
-}
-
-fn are_index_words(types: usize, ws: &[u16]) -> bool
-    ensures { λ r. ⌜ r ≡ indexWords types (now (ws .entry)) ⌝ }
-{
-    let mut i = 0;
-    while i < ws.len() {
-        if !is_index_word(types, ws[i]) {
-            return false;
-        }
-        i += 1;
-    }
-    true
-}
 
 // Whether all words are exactly one index over so many types. Most are one word, which is not walked.
 pub fn is_index(types: usize, ws: &[u16]) -> bool

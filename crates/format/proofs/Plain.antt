@@ -16,7 +16,7 @@ use Rattle.text.specs.Numbers.{isDigit, allDigits, decimal}
 use Rattle.text.specs.Tokens.{carries, token, spaced, tokens}
 use Rattle.text.proofs.Decimals.{digit-is, decimal-digits}
 use Rattle.text.proofs.Cutting.{allLack}
-use Rattle.format.specs.Files.{Key, Variable, File, keyText, letter, sideLetter, indexWords, variableText, stepText}
+use Rattle.format.specs.Files.{Key, Variable, File, keyText, letter, sideLetter, writtenWords, variableText, stepText}
 use Rattle.format.proofs.Values.{Value, types, basis, variable, left, right, step, end}
 use Rattle.format.proofs.Lines.{Taken, taken}
 use Rattle.format.proofs.Runs.{Run, stop, more}
@@ -74,7 +74,7 @@ letter-plain kind = go (eqb kind 0) (eqb kind 1) (eqb kind 2) (eqb kind 3)
 
 variable-plain : (v : Variable) → plain (variableText v) ≡ true
 unfolding variableText plain
-variable-plain v = and-eq-true-iff (printable (letter (v .kind))) _ .1 (letter-plain (v .kind), spaced-plain (indexWords v))
+variable-plain v = and-eq-true-iff (printable (letter (v .kind))) _ .1 (letter-plain (v .kind), spaced-plain (writtenWords v))
 
 side-plain : (s : Side) (n : ℕ) → plain (sideLetter s ∷ space ∷ decimal n) ≡ true
 unfolding plain

@@ -17,7 +17,7 @@ use Rattle.declarations.proofs.Entries.{index-tests, variable-tests, square-tol
 use Rattle.text.specs.Pieces.{Text, space}
 use Rattle.text.specs.Tokens.{spaced, tokens, tokensIn}
 use Rattle.text.proofs.Written.{allKnown, some-tokens, tokens-written}
-use Rattle.format.specs.Files.{Variable, letter, indexWords, variableText}
+use Rattle.format.specs.Files.{Variable, letter, writtenWords, variableText}
 use Rattle.format.specs.Reading.{kindOfLetter, wordsBehind, variableWith, variableOf, variableIn}
 use Rattle.format.proofs.Known.{Told, index-told, told-read, part-whole, known-append}
 
@@ -64,7 +64,7 @@ module _ (N : ℕ) (xs ys : List ℕ) where
   read-as k = record { kind = k; first = xs; second = ys }
 
   abbrev Read : ℕ → Type 0
-  Read k = variableOf (kindOfLetter (letter k)) (wordsBehind (spaced (indexWords (read-as k)))) ≡ some (read-as k)
+  Read k = variableOf (kindOfLetter (letter k)) (wordsBehind (spaced (writtenWords (read-as k)))) ≡ some (read-as k)
 
   one-read : (k : ℕ) → kindOfLetter (letter k) ≡ some k → eqb k 3 ≡ false → marked k ≡ false → Told xs → ys ≡ [] → Read k
   unfolding variableOf
@@ -101,7 +101,7 @@ unfolding allKnown
 wanted-known N xs true e = rw (empty xs (eqb-true _ _ e))
 wanted-known N xs false e = index-told N xs e .all-known
 
-variable-known : (N k : ℕ) (xs ys : List ℕ) → isVariable N k xs ys ≡ true → allKnown (indexWords (record { kind = k; first = xs; second = ys })) ≡ true
+variable-known : (N k : ℕ) (xs ys : List ℕ) → isVariable N k xs ys ≡ true → allKnown (writtenWords (record { kind = k; first = xs; second = ys })) ≡ true
 variable-known N k xs ys e = go (marked k)
   where
     first-known : allKnown xs ≡ true
@@ -130,13 +130,13 @@ kind-letter b k e = go (eqb b 83) (eqb b 75) (eqb b 66) (eqb b 79) (eqb b 85) re
     go false false false false true p q r s x e = is 7 e (eqb-true _ _ x)
     go false false false false false p q r s x e = cc
 
-made : (k : ℕ) (ws : List ℕ) (v : Variable) → variableOf (some k) (some ws) ≡ some v → (k ≡ v .kind) × (ws ≡ indexWords v)
+made : (k : ℕ) (ws : List ℕ) (v : Variable) → variableOf (some k) (some ws) ≡ some v → (k ≡ v .kind) × (ws ≡ writtenWords v)
 unfolding variableOf
 made k ws v e =
     let z : variableWith k ws ≡ v = cc in
-    (ap (λ (u : Variable). u .kind) z, split (marked k) refl ∙ ap indexWords z)
+    (ap (λ (u : Variable). u .kind) z, split (marked k) refl ∙ ap writtenWords z)
   where
-    split : (m : Bool) → marked k ≡ m → ws ≡ indexWords (variableWith k ws)
+    split : (m : Bool) → marked k ≡ m → ws ≡ writtenWords (variableWith k ws)
     split true m = let h = leb-true 4 k m in rw (m, ne-eqb k 3 (λ z. omega arith)) (sym (take-length ws))
     split false m = rw (m) (sym (take-append-drop (cond (eqb k 3) (length (part ws 0)) (length ws)) ws))
 
@@ -146,9 +146,9 @@ variable-written N [] v e h = cc
 variable-written N (b ∷ bs) v e h = go (kindOfLetter b) (wordsBehind bs) refl refl e
   where
     go : (o : Option ℕ) (os : Option (List ℕ)) → kindOfLetter b ≡ o → wordsBehind bs ≡ os → variableOf o os ≡ some v
-        → b ∷ bs ≡ letter (v .kind) ∷ spaced (indexWords v)
+        → b ∷ bs ≡ letter (v .kind) ∷ spaced (writtenWords v)
     go none os p q e = cc
     go (some k) none p q e = cc
     go (some k) (some ws) p q e =
         let m = made k ws v e in
-        cc (kind-letter b (v .kind) (rw (m .0) at p), behind-written bs (indexWords v) (rw (m .1) at q) (variable-known N (v .kind) (v .first) (v .second) h))
+        cc (kind-letter b (v .kind) (rw (m .0) at p), behind-written bs (writtenWords v) (rw (m .1) at q) (variable-known N (v .kind) (v .first) (v .second) h))

@@ -56,12 +56,12 @@ sideLetter Left = 76
 sideLetter Right = 82
 
 -- the index of a marked operator, which is both, is written once
-abbrev pub indexWords : Variable → List ℕ
-indexWords v = cond (marked (v .kind)) (v .first) (v .first ++ v .second)
+abbrev pub writtenWords : Variable → List ℕ
+writtenWords v = cond (marked (v .kind)) (v .first) (v .first ++ v .second)
 
 unfoldable pub variableText : Variable → Text
 unfolding spaced
-variableText v = letter (v .kind) ∷ spaced (indexWords v)
+variableText v = letter (v .kind) ∷ spaced (writtenWords v)
 
 unfoldable pub stepText : Move → Text
 unfolding decimal

@@ -65,6 +65,13 @@ declared N w =
 abbrev pub allDeclared : Names → List ℕ → Bool
 allDeclared N ws = all (declared N) ws
 
+-- a word of an index over N types: a type name, or a product's head
+unfoldable pub indexWord : ℕ → ℕ → Bool
+indexWord N w = cond (eqb (w / 256) 1) (ltb (w % 256) N) (eqb w 512)
+
+abbrev pub allIndexWords : ℕ → List ℕ → Bool
+allIndexWords N ws = all (indexWord N) ws
+
 -- What a term is, of a tree: document 01's limits and its declared names
 pub record IsTerm (N : Names) (t : Tree) : Type 0 where
   pub formed : Formed t

@@ -1,7 +1,10 @@
 // Declared names, and the test of a term.
+use crate::heads::INDEX_PRODUCT;
 use crate::parts::part_at;
 ghost use mathlib.Core.Path.{_≡_};
-ghost use Rattle.term.specs.Terms.{known, declared, allDeclared, isTerm};
+ghost use mathlib.Core.Bool.{cond};
+ghost use Rattle.words.specs.Listed.{all};
+ghost use Rattle.term.specs.Terms.{known, declared, allDeclared, indexWord, allIndexWords, isTerm};
 
 // How many names of each kind are declared.
 pub struct Names {
@@ -34,18 +37,57 @@ pub fn is_declared(names: Names, word: u16) -> bool
     true
 }
 
-// Whether the names in all words are declared.
-pub fn all_declared(names: Names, ws: &[u16]) -> bool
-    ensures { λ r. ⌜ r ≡ allDeclared names (now (ws .entry)) ⌝ }
+// Whether a word may stand in an index over so many types: a type name, or a product's head.
+pub fn is_index_word(types: usize, word: u16) -> bool
+    ensures { λ r. ⌜ r ≡ indexWord types word ⌝ }
+{
+    if word / 256 == 1 {
+        let name = (word % 256) as usize;
+        return name < types;
+    }
+    word == INDEX_PRODUCT
+}
+
+// Whether a word passes one of the two tests.
+fn passes(names: Names, index: bool, word: u16) -> bool
+    ensures { λ r. ⌜ r ≡ cond index (indexWord (names .types)) (declared names) word ⌝ }
+{
+    if index {
+        return is_index_word(names.types, word);
+    }
+    is_declared(names, word)
+}
+
+fn all_pass(names: Names, index: bool, ws: &[u16]) -> bool
+    ensures { λ r. ⌜ r ≡ all (cond index (indexWord (names .types)) (declared names)) (now (ws .entry)) ⌝ }
 {
     let mut i = 0;
     while i < ws.len() {
-        if !is_declared(names, ws[i]) {
+        if !passes(names, index, ws[i]) {
             return false;
         }
         i += 1;
     }
     true
+}
+
+// Whether the names in all words are declared.
+pub fn all_declared(names: Names, ws: &[u16]) -> bool
+    ensures { λ r. ⌜ r ≡ allDeclared names (now (ws .entry)) ⌝ }
+{
+    all_pass(names, false, ws)
+}
+
+// Whether all words may stand in an index over so many types.
+pub fn are_index_words(types: usize, ws: &[u16]) -> bool
+    ensures { λ r. ⌜ r ≡ allIndexWords types (now (ws .entry)) ⌝ }
+{
+    let names = Names {
+        types,
+        bases: 0,
+        variables: 0,
+    };
+    all_pass(names, true, ws)
 }
 
 // Whether the first `n` words of `ws` are a term: one whole part to its end, within the limits and with declared names.
