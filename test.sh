@@ -1,7 +1,7 @@
 #!/usr/bin/env bash
 # All tests, from nothing: the checker's, every proof, every edit that must be refused, every program against its stored output, then the
-# proved typing, the proved step and its preview, the proved run and the proved replay against the checker's on random cases; the examples; the library from C
-# and from Rust, and on random files beside the checker in one process.
+# proved typing, the proved step and its preview, the proved run and the proved replay against the checker's on random cases; the examples and their pages; the library from C
+# and from Rust; a page in a browser, where one is installed; and the library on random files beside the checker in one process.
 set -euo pipefail
 cd "$(dirname "$0")"
 checked='rattle-kit-5b-plain logic 097e4c862dff5811'
@@ -41,8 +41,9 @@ done
 for file in checker/vectors/replay/*.in; do
     target/bin/replay < "$file" | cmp - "${file%.in}.out"
 done
-examples/test.sh
 finish "$library" "$logs/library"
+examples/test.sh
 bindings/test.sh
+bindings/page-test.sh
 cargo run --release --offline --quiet --manifest-path bench/Cargo.toml --bin scale -- 1 20000
 tail -n 1 "$logs/ci"

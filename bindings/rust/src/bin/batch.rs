@@ -3,15 +3,14 @@
 //! to standard output, with a summary; with `--json` a line a file instead. With `--only` a folder's files count only where their names end
 //! so. The exit status is 0 only if every file was accepted; files that cannot be read are named and counted.
 
+mod files;
+
 use fejogbu::{replay, Answer, Code, Work};
+use files::{files_under, progress, read};
 use std::cmp::Reverse;
 use std::fs;
-use std::io::{IsTerminal, Read, Write};
 use std::path::{Path, PathBuf};
 use std::process::ExitCode;
-
-/// One byte more than a file may have tells that it is too long.
-const MOST_BYTES: u64 = 65_537;
 
 const HELP: &str = "\
 usage: batch [--json] [--only SUFFIX] PATH..   (a path is a file or a folder)
@@ -41,20 +40,6 @@ fn asked(mut words: impl Iterator<Item = String>) -> Option<Asked> {
     (!asked.paths.is_empty()).then_some(asked)
 }
 
-/// The files that a path stands for: itself, or those of a folder and of the folders in it whose names end so, in their order.
-fn files_under(path: &Path, only: &str, found: &mut Vec<PathBuf>) {
-    let Ok(entries) = fs::read_dir(path) else {
-        found.push(path.to_path_buf());
-        return;
-    };
-    let mut paths: Vec<PathBuf> = entries.flatten().map(|entry| entry.path()).collect();
-    paths.retain(|path| path.is_dir() || path.to_string_lossy().ends_with(only));
-    paths.sort();
-    for path in paths {
-        files_under(&path, only, found);
-    }
-}
-
 /// The order of the replay: the longest file, the shortest, then the others as they come. So the customer's batches have begun ever since a short term kept the stale tail of a
 /// longer one. Of files of one length the first counts, and a file without a length keeps its place.
 fn in_order<F>(files: Vec<F>, length: impl Fn(&F) -> Option<u64>) -> Vec<F> {
@@ -75,14 +60,6 @@ fn in_order<F>(files: Vec<F>, length: impl Fn(&F) -> Option<u64>) -> Vec<F> {
         _ => 2,
     });
     placed.into_iter().map(|(_, file)| file).collect()
-}
-
-fn read(path: &Path) -> std::io::Result<Vec<u8>> {
-    let mut bytes = Vec::new();
-    fs::File::open(path)?
-        .take(MOST_BYTES)
-        .read_to_end(&mut bytes)?;
-    Ok(bytes)
 }
 
 fn quoted(text: &str) -> String {
@@ -134,16 +111,6 @@ fn json(path: &Path, answer: &Result<Told, String>) -> String {
             quoted(words)
         ),
         Err(why) => format!(r#"{{"file":{file},"unreadable":{}}}"#, quoted(why)),
-    }
-}
-
-fn progress(done: usize, all: usize) {
-    if std::io::stderr().is_terminal() && (done % 100 == 0 || done == all) {
-        eprint!("\r{done} of {all} files");
-        if done == all {
-            eprintln!();
-        }
-        let _ = std::io::stderr().flush();
     }
 }
 
