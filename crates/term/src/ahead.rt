@@ -59,6 +59,9 @@ pub(crate) fn leaves_of_both(front: &[u16], back: &[u16], at: usize, n: usize) -
     requires { ⌜ at ≤ length (now front) + length (now back) ⌝ }
     ensures { λ r. ⌜ (r ≤ n) × (at + r ≤ length (now (front .entry)) + length (now (back .entry))) × Leaves (now (front .entry) ++ now (back .entry)) at r ⌝ }
 {
+    if n < LONG_ROW {
+        return 0;
+    }
     if front.len() <= at {
         return leaves_ahead(back, at - front.len(), n);
     }
