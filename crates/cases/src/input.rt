@@ -7,7 +7,7 @@ use crate::output;
 use libc::STDIN_FILENO;
 
 // A number, and the byte behind it.
-#[derive(Drop)]
+#[derive(Clone, Copy)]
 pub struct Number {
     pub value: usize,
     pub behind: usize,

@@ -1,5 +1,6 @@
 // Answers the cases that standard input holds, a line each, and writes a line for each. A case is numbers: the first is its kind, and the
 // module of the kind says what follows. A line that begins with no known kind, as one with `#` does, is a comment.
+#![tactic(auto)]
 mod answers;
 mod declared;
 mod input;

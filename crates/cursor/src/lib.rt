@@ -1,25 +1,26 @@
 // The reader holds the file's bytes and its own place. Each function over it takes it apart and leaves the work to a function on a slice and a number; `piece_at` serves
 // every caller that has those.
+#![tactic(auto)]
 ghost use Rattle.std.specs.Prelude.{◌≡◌};
 ghost use Rattle.cursor.specs.Reading.{past, at_end, next_of, span_at};
 
 use text::pieces::piece_end;
 
-#[derive(Drop)]
+#[derive(Clone, Copy)]
 pub struct Reader<'a> {
     pub bytes: &'a [u8],
     pub at: usize,
 }
 
 // A piece that was read, from the reader's place to `end`, and the reader that stands behind it.
-#[derive(Drop)]
+#[derive(Clone, Copy)]
 pub struct Piece<'a> {
     pub end: usize,
     pub rest: Reader<'a>,
 }
 
 // The same in numbers: where the piece ends, where the next one begins, and whether there is nothing more.
-#[derive(Drop)]
+#[derive(Clone, Copy)]
 pub struct Span {
     pub end: usize,
     pub next: usize,

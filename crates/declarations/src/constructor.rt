@@ -8,7 +8,7 @@ use crate::{SIZE, are_counts, is_index, is_variable};
 use words::{clear_from, word_at};
 
 // What putting a name answers. Only `Done` changes the words.
-#[derive(Drop)]
+#[derive(Clone, Copy)]
 pub enum Put {
     Done,
     WrongSize,

@@ -7,7 +7,7 @@ use term::heads::{Arity, arity_of};
 use term::parts::part_end;
 
 // A child of a part: whether there is one, and where it begins and ends in the part's words.
-#[derive(Drop)]
+#[derive(Clone, Copy)]
 pub struct Child {
     pub there: bool,
     pub start: usize,

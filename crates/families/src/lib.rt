@@ -1,4 +1,5 @@
 // The rules that are no equation: a function for each family of them. The entry finds the family by the rule's number, and relies on nothing: the words may be any.
+#![tactic(auto)]
 mod chains;
 mod children;
 mod collecting;
@@ -109,7 +110,7 @@ fn may_deepen(family: u16) -> bool
 }
 
 // The size of a part, and its depth where that is asked for.
-#[derive(Drop)]
+#[derive(Clone, Copy)]
 struct Extent {
     size: usize,
     depth: usize,

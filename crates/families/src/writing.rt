@@ -1,7 +1,7 @@
 // What a rewriting answers.
 
 // The code 0 with the end of what it wrote, or the code 22 or 23 with 0.
-#[derive(Drop)]
+#[derive(Clone, Copy)]
 pub struct Rewritten {
     pub code: usize,
     pub end: usize,
@@ -14,7 +14,7 @@ pub const NO_INSTANCE: Rewritten = Rewritten { code: 22, end: 0 };
 pub const TOO_BIG: Rewritten = Rewritten { code: 23, end: 0 };
 
 // What is written for the part with which words begin, how many words that part has, and whether the rule may leave it deeper; then also how deep it is, and else 0.
-#[derive(Drop)]
+#[derive(Clone, Copy)]
 pub struct Replaced {
     pub written: Rewritten,
     pub size: usize,

@@ -1,1 +1,2 @@
 // The form of a file: definitions and laws.
+#![tactic(auto)]

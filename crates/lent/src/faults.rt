@@ -8,7 +8,7 @@ use typing::terms::{Sizes, TermType, Typing, sizes_of, type_term};
 use words::same;
 
 // A fault that is found before any step, or code 0 for none.
-#[derive(Drop)]
+#[derive(Clone, Copy)]
 pub struct Fault {
     pub code: usize,
     pub side: usize,

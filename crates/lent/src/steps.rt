@@ -8,7 +8,7 @@ use term::parts::Side;
 use words::append;
 
 // A step: the number of a rule, an offset in the term, and two indices among the children, each as a file can give it.
-#[derive(Drop)]
+#[derive(Clone, Copy)]
 pub struct Step {
     pub rule: u16,
     pub place: u16,

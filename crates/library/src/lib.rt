@@ -1,6 +1,7 @@
 // The library for others: the replay, the run, the single step, its preview, the typing, the lookup of a part and the constructors as functions of plain numbers and lent slices,
 // which C and Rust can call. Nothing is relied on. Where a function hands out an answer as numbers, a slice for it of another size is refused: the function returns 1 and touches
 // nothing.
+#![tactic(auto)]
 ghost use Rattle.std.specs.Prelude.{◌≡◌, cond, ◌&&◌, eqb, length, get_or};
 ghost use Rattle.term.specs.Parts.{part, part_depth};
 ghost use Rattle.declarations.specs.Declarations.{is_index, is_variable};

@@ -1,5 +1,6 @@
 // The words of a rule's left side against the words of a term from a place on, with any words behind. Each child is a further part of these words, and nothing is
 // relied on: either may be any words.
+#![tactic(auto)]
 ghost use Rattle.std.specs.Prelude.{◌≡◌, ◌<◌, drop};
 ghost use Rattle.matcher.specs.Matching.{Standing, began, stopped, passed, taken, hole_matched, word_matched, match_of};
 
@@ -8,7 +9,7 @@ use words::same;
 
 // What a walk found: how many holes were met, and from where up to where the part of each stands. Where it stopped, `wanted` is the word of the left side that was not met at
 // the offset `at`: a head's, or that of a hole which was to hold the same part again. A walk that did not stop came to `at`, and `wanted` is 0.
-#[derive(Drop)]
+#[derive(Clone, Copy)]
 pub struct Match {
     pub whole: bool,
     pub wanted: u16,

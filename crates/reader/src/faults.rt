@@ -3,7 +3,7 @@ ghost use Rattle.std.specs.Prelude.{◌≡◌};
 ghost use Rattle.reader.specs.Code.Lines.{fault};
 
 // A code with its line; or code 0 with the words of the line's term, 0 where it has none.
-#[derive(Drop)]
+#[derive(Clone, Copy)]
 pub struct Fault {
     pub code: usize,
     pub at: usize,

@@ -12,7 +12,7 @@ use text::pieces::bad_line;
 use words::clear_from;
 
 // A code with its line; or what was read, with code 0: the lengths of the two terms, and how many steps there are.
-#[derive(Drop)]
+#[derive(Clone, Copy)]
 pub struct Read {
     pub code: usize,
     pub at: usize,

@@ -1,4 +1,5 @@
 // The reading of a file into lent words.
+#![tactic(auto)]
 mod declaring;
 mod faults;
 pub mod files;

@@ -14,14 +14,14 @@ use term::parts::Side;
 use text::numbers::{Number, read_number};
 
 // The side that a step line names.
-#[derive(Drop)]
+#[derive(Clone, Copy)]
 enum Sided {
     Named(Side),
     Malformed,
 }
 
 // The number in a field, and where the next field begins: one past the end of the line where there is none.
-#[derive(Drop)]
+#[derive(Clone, Copy)]
 enum Field {
     Number(u16, usize),
     Malformed,

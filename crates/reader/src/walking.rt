@@ -10,7 +10,7 @@ use crate::terms::take_term;
 
 // What was read so far: the stage, the lengths of the two terms, and how many steps there are. The stages are those of `format` Reading: 0 before the types, 1 among the
 // bases, 2 among the variables, 3 behind the left side, 4 among the steps, 5 at the end.
-#[derive(Drop)]
+#[derive(Clone, Copy)]
 pub struct State {
     pub stage: usize,
     pub left: usize,
@@ -19,7 +19,7 @@ pub struct State {
 }
 
 // A line's fault, and the state behind it.
-#[derive(Drop)]
+#[derive(Clone, Copy)]
 pub struct Taken {
     pub fault: Fault,
     pub state: State,

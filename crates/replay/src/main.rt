@@ -1,4 +1,5 @@
 // Replays the derivation on standard input and writes the six lines of its answer: code, side, step, at, and the two lengths in words.
+#![tactic(auto)]
 use file::replay::replay;
 use libc::{STDIN_FILENO, STDOUT_FILENO};
 

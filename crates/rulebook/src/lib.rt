@@ -1,4 +1,5 @@
 // The table of rules as the code holds it. `rules` Table is the same table to be read; a computed test holds the two together.
+#![tactic(auto)]
 mod equations;
 
 ghost use Rattle.std.specs.Prelude.{◌≡◌, ◌/◌, drop};
@@ -9,7 +10,7 @@ use crate::equations::{WORDS_FROM_0, WORDS_FROM_50, WORDS_FROM_100, WORDS_FROM_1
 use words::copy_words;
 
 // What a rule is: its family, and what the family asks (`row_for` of specs/Code/Rows has the list).
-#[derive(Drop)]
+#[derive(Clone, Copy)]
 pub struct Row {
     pub family: u16,
     pub a: u16,

@@ -1,5 +1,6 @@
 // What is read off the words of a typed part: its class, and the two indices of its type. The heads and the typing rules say where each is, and nothing is tested on
 // the way. Every function answers whatever the words are.
+#![tactic(auto)]
 ghost use Rattle.std.specs.Prelude.{◌≡◌, cond, ◌<◌, ◌+◌, ◌%◌, eqb, length, get_or};
 ghost use Rattle.words.specs.Words.{Added};
 ghost use Rattle.term.specs.Heads.{result_of};
@@ -119,7 +120,7 @@ fn declared_index(ds: &[u16], right: bool, word: u16) -> &[u16]
 }
 
 // What a walk back comes to: the offset of a sum, or how many sums are left to be passed where it comes to the front of the words.
-#[derive(Drop)]
+#[derive(Clone, Copy)]
 struct Walked {
     found: bool,
     at: usize,

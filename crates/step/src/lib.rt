@@ -1,3 +1,4 @@
+#![tactic(auto)]
 mod building;
 mod equations;
 pub mod preview;

@@ -8,7 +8,7 @@ use lent::faults::{Fault, first_fault};
 use words::{clear_from, first_difference, same};
 
 // The answer: a code with its side, step and place, and the lengths of the two terms that are left.
-#[derive(Drop)]
+#[derive(Clone, Copy)]
 pub struct Answer {
     pub code: usize,
     pub side: usize,

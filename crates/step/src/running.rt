@@ -22,7 +22,7 @@ fn side_named(word: u16) -> usize
 }
 
 // A step on one of two sides: its code, and the lengths of both terms after it.
-#[derive(Drop)]
+#[derive(Clone, Copy)]
 struct Moved {
     code: usize,
     left: usize,

@@ -8,7 +8,7 @@ use typing::terms::type_term;
 use words::clear_from;
 
 // The answer: a code with its side, step and place, and the length of the term that is left.
-#[derive(Drop)]
+#[derive(Clone, Copy)]
 pub struct Answer {
     pub code: usize,
     pub side: usize,

@@ -19,7 +19,7 @@ use term::parts::{level_at, part_at};
 use words::{append, clear_from};
 
 // What a step comes to: its code, and the length of the term that is left.
-#[derive(Drop)]
+#[derive(Clone, Copy)]
 pub struct Taken {
     pub code: usize,
     pub length: usize,

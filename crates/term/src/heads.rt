@@ -4,7 +4,7 @@ ghost use Rattle.term.specs.Heads.{arity_of, result_of, child_of};
 ghost use Rattle.term.specs.Code.Lines.{line_at, class_of};
 
 // The sorts that the table tells apart. An `Array` is a ket, a bra or an operator; a `Term` is one of these or a scalar.
-#[derive(Drop)]
+#[derive(Clone, Copy)]
 pub enum Class {
     Nothing,
     Index,
@@ -18,7 +18,7 @@ pub enum Class {
 }
 
 // How many children a word wants, if its head is known.
-#[derive(Drop)]
+#[derive(Clone, Copy)]
 pub enum Arity {
     Unknown,
     Children(usize),

@@ -1,3 +1,4 @@
+#![tactic(auto)]
 mod ahead;
 pub mod heads;
 pub mod parts;

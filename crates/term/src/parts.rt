@@ -8,7 +8,7 @@ use crate::ahead::{LONG_ROW, leaves_ahead, leaves_of_both};
 use crate::heads::{Arity, arity_of};
 
 // One of the two sides of a derivation.
-#[derive(Drop)]
+#[derive(Clone, Copy)]
 pub enum Side {
     Left,
     Right,
@@ -72,7 +72,7 @@ pub fn level_at(ws: &[u16], at: usize) -> usize
 }
 
 // Where a part ends and how deep it is, where that was found out: its start and 0 where no whole part begins there.
-#[derive(Drop)]
+#[derive(Clone, Copy)]
 struct Extent {
     told: bool,
     end: usize,

@@ -7,7 +7,7 @@ use crate::heads::INDEX_PRODUCT;
 use crate::parts::part_at;
 
 // How many names of each kind are declared.
-#[derive(Drop)]
+#[derive(Clone, Copy)]
 pub struct Names {
     pub types: usize,
     pub bases: usize,

@@ -3,7 +3,6 @@ ghost use Rattle.std.specs.Prelude.{◌≡◌, false, ◌&&◌};
 ghost use Rattle.text.specs.Bytes.{printable, fine, all_fine, bad_line};
 ghost use Rattle.text.specs.Pieces.{piece_end, starts};
 
-use bytes::scan::find;
 
 fn is_printable(byte: u8) -> bool
     ensures { result ≡ printable byte }
@@ -85,10 +84,14 @@ pub fn bad_line(bytes: &[u8]) -> usize
 pub fn piece_end(text: &[u8], at: usize, b: u8) -> usize
     ensures { result ≡ piece_end text.now at b }
 {
-    if text.len() < at {
-        return at;
+    let mut i = at;
+    while i < text.len() {
+        if text[i] == b {
+            return i;
+        }
+        i += 1;
     }
-    find(text, at, text.len(), b)
+    i
 }
 
 // Whether a text begins with a key.

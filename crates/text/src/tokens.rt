@@ -10,14 +10,14 @@ use crate::pieces::piece_end;
 use term::heads::{Arity, arity_of};
 
 // A token's word.
-#[derive(Drop)]
+#[derive(Clone, Copy)]
 pub enum Token {
     Word(u16),
     Malformed,
 }
 
 // How many tokens a value has, where all are of the form.
-#[derive(Drop)]
+#[derive(Clone, Copy)]
 pub enum Tokens {
     Count(usize),
     Malformed,
@@ -33,7 +33,7 @@ fn is_known(word: u16) -> bool
 }
 
 // A part of a token: a number up to 255.
-#[derive(Drop)]
+#[derive(Clone, Copy)]
 enum Part {
     Byte(u8),
     Malformed,

@@ -14,7 +14,7 @@ use term::parts::larger;
 use words::word_at;
 
 // What typing finds of a part: its number of words, its depth and its sort, or the offset of the first untyped part.
-#[derive(Drop)]
+#[derive(Clone, Copy)]
 pub struct Verdict {
     pub typed: bool,
     pub at: usize,

@@ -1,3 +1,4 @@
+#![tactic(auto)]
 mod bodies;
 mod gathering;
 mod infer;

@@ -10,7 +10,7 @@ use term::heads::Class;
 use words::copy_words;
 
 // A sort, or none, and where the declarations have the words of its two indices.
-#[derive(Drop)]
+#[derive(Clone, Copy)]
 pub struct Entry {
     pub typed: bool,
     pub sorted: Sorted,

@@ -10,7 +10,7 @@ use words::{append, same};
 
 // An index or a basis has its index on the left; a ket has its index on the left, a bra on the right, and an operator its rows on the left and its columns on the right, as
 // the matrix that each stands for.
-#[derive(Drop)]
+#[derive(Clone, Copy)]
 pub struct Sorted {
     pub class: Class,
     pub left: usize,
@@ -18,14 +18,14 @@ pub struct Sorted {
 }
 
 // Words of the stack or of the declarations: where they begin, and how many they are.
-#[derive(Drop)]
+#[derive(Clone, Copy)]
 pub struct Run {
     pub at: usize,
     pub len: usize,
 }
 
 // What a rule concludes: a sort, or none.
-#[derive(Drop)]
+#[derive(Clone, Copy)]
 pub struct Outcome {
     pub typed: bool,
     pub sorted: Sorted,
@@ -33,7 +33,7 @@ pub struct Outcome {
 
 // What a rule makes of a part's children: whether there is a sort, and which; whether indices are multiplied; and where the words of its two indices stand, or of their first
 // factors.
-#[derive(Drop)]
+#[derive(Clone, Copy)]
 pub struct Plan {
     pub typed: bool,
     pub sorted: Sorted,
@@ -44,7 +44,7 @@ pub struct Plan {
 
 // What is kept of a part's children as they come: the first and the latest, with the place of the latest's words, whether all are like the first, where that is asked, and where
 // the next one's words go: the first's stay, and the others' come behind them.
-#[derive(Drop)]
+#[derive(Clone, Copy)]
 pub struct Gathered {
     pub first: Sorted,
     pub latest: Sorted,

@@ -7,7 +7,7 @@ use term::heads::{Arity, arity_of};
 use words::word_at;
 
 // The offset of the first stray part where one was found, and else that of the end of what was looked at.
-#[derive(Drop)]
+#[derive(Clone, Copy)]
 pub struct Stray {
     pub found: bool,
     pub at: usize,

@@ -17,7 +17,7 @@ use typebook::number;
 use words::copy_words;
 
 // The kind of a type, with the lengths of its indices.
-#[derive(Drop)]
+#[derive(Clone, Copy)]
 pub enum Kind {
     Scalar,
     Ket(usize),
@@ -26,7 +26,7 @@ pub enum Kind {
 }
 
 // A kind by its number (0 scalar, 1 ket, 2 bra, 3 operator) with the lengths of the indices of its rows and of its columns, 0 where it has none.
-#[derive(Drop)]
+#[derive(Clone, Copy)]
 pub struct Sizes {
     pub number: u16,
     pub rows: usize,
@@ -61,7 +61,7 @@ pub fn sizes_of(kind: Kind) -> Sizes
 }
 
 // A type: its kind, and the words of its indices with zeros behind. A ket's index is that of its rows, a bra's that of its columns.
-#[derive(Drop)]
+#[derive(Clone, Copy)]
 pub struct TermType {
     pub kind: Kind,
     pub rows: [u16; 63],
@@ -69,7 +69,7 @@ pub struct TermType {
 }
 
 // The answer: a code with its place, or the length, the depth and the type of the term.
-#[derive(Drop)]
+#[derive(Clone, Copy)]
 pub struct Typing {
     pub code: usize,
     pub side: usize,

@@ -1,0 +1,15 @@
+-- The invariant: to store what is left of `ws` would give what the contract asks, and `ds` is as long as it was. The measure is what is left of `ws`.
+use mathlib.Core.Path.{◌≡◌, sym, ◌∙◌}
+use Prim.Native.Nat.{◌+◌, ◌-◌, ◌≤◌}
+use native.Mathlib.Omega.{arith}
+use lib.ListN.{length, drop, length-set}
+use lib.Seq.{sets}
+use borrow.Author.Rules.{rules}
+use Rattle.declarations.proofs.Put.{sets_begin, sets_more, sets_end}
+use Rattle.declarations.proofs.constructor.lay.Given as goal
+
+abbrev pub invariant-loop-i : goal.invariant-loop-i
+invariant-loop-i l = (l.i ≤ length l.ws) × (length l.ds ≡ length l.initial.ds) × (sets l.ds (l.at + l.i) (drop l.i l.ws) ≡ sets l.initial.ds l.at l.ws)
+
+abbrev pub decreases-loop-i : goal.decreases-loop-i
+decreases-loop-i l = length l.ws - l.i

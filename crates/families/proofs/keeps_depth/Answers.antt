@@ -1,0 +1,7 @@
+-- By the family of the row.
+use borrow.Author.Rules.{rules}
+use Rattle.families.proofs.Depths.{row_keeps}
+use Rattle.families.proofs.keeps_depth.Goals as goal
+
+pub returns : goal.returns
+returns c = row_keeps _ _ c.row_of-row.ensures

@@ -1,0 +1,21 @@
+-- The tests in their order.
+use mathlib.Core.Path.{sym, ◌∙◌}
+use native.Mathlib.Omega.{arith}
+use Rattle.lent.proofs.Lending.{too_many, too_short, sides-told}
+use borrow.Author.Rules.{rules}
+use Rattle.lent.proofs.steps.steps_fault.Goals as goal
+
+pub returns-then-n-gt-MOST_STEPS : goal.returns-then-n-gt-MOST_STEPS
+returns-then-n-gt-MOST_STEPS c = sym (too_many _ _ c.if-n-gt-MOST_STEPS.true)
+
+pub returns-then-steps-n : goal.returns-then-steps-n
+returns-then-steps-n c = sym (too_short _ _ (omega arith) c.if-steps-n.true)
+
+pub are_sided-requires : goal.are_sided-requires
+are_sided-requires c = (omega arith, omega arith)
+
+pub returns-then-are_sided : goal.returns-then-are_sided
+returns-then-are_sided c = sym (sides-told _ _ (omega arith) (omega arith) (sym c.are_sided.ensures ∙ c.if-are_sided.true))
+
+pub returns : goal.returns
+returns c = sym (sides-told _ _ (omega arith) (omega arith) (sym c.are_sided.ensures ∙ c.if-are_sided.false))

@@ -1,0 +1,8 @@
+-- What the lookup hands back, as its length and its depth.
+use mathlib.Core.Path.{ap}
+use borrow.Author.Rules.{rules}
+use lib.ListN.{length}
+use Rattle.library.proofs.fejogbu_part.Goals as goal
+
+pub returns : goal.returns
+returns c = (ap length c.part_at-found.ensures.same, c.part_at-found.ensures.depth)

@@ -1,0 +1,6 @@
+-- The numbers as the slice wants them, with those of the kind.
+use borrow.Author.Rules.{rules}
+use Rattle.library.proofs.put_numbers.Goals as goal
+
+pub returns : goal.returns
+returns c = cc

@@ -1,0 +1,7 @@
+-- A row is told by the digits of its line.
+use borrow.Author.Rules.{rules}
+use Rattle.rulebook.proofs.Rows.{row_in_lem}
+use Rattle.rulebook.proofs.row_of.Goals as goal
+
+pub returns : goal.returns
+returns c = rw c.line_of-line.ensures (row_in_lem _)

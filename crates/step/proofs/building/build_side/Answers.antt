@@ -1,0 +1,42 @@
+use mathlib.Core.Path.{◌≡◌, refl, ◌∙◌, ap}
+use mathlib.Core.Logic.{◌⊎◌}
+use mathlib.Core.Bool.{true}
+use Prim.Native.Nat.{◌-◌, ◌≤◌}
+use native.Mathlib.Omega.{arith}
+use borrow.Author.Rules.{rules}
+use lib.ListN.{length, take}
+use lib.Seq.{take_all}
+use Rattle.words.specs.Words.{Added}
+use Rattle.words.proofs.Runs.{added_both, none_added, added_as}
+use Rattle.declarations.specs.Declarations.{context_at}
+use Rattle.shapes.specs.Bodies.{outer_at}
+use Rattle.step.specs.Code.Building.{pieces, indexless, Caught, AllSorted}
+use Rattle.step.proofs.Pieces.{side-asks, side-more, side-typed}
+use Rattle.step.proofs.building.build_side.Goals as goal
+
+pub loop-k-init : goal.loop-k-init
+unfolding pieces
+loop-k-init c = (omega arith, refl, λ x o t. none_added _ _ (omega arith))
+
+pub build_word-done-requires : goal.build_word-done-requires
+build_word-done-requires c =
+    let pre = c.requires in
+    let more = c.loop-k-test.true in
+    ((pre.0.0, pre.0.1, side-typed _ _ more pre.0.2), side-asks _ _ more _ pre.1)
+
+pub loop-k-preserved : goal.loop-k-preserved
+loop-k-preserved c =
+    let loop = c.loop-k in
+    let more = c.loop-k-test.true in
+    let written = c.build_word-done.ensures in
+    let first = c.requires.0 in (
+      omega arith,
+      (written first.0 first.1 (side-typed _ _ more first.2)).size ∙ loop.invariant.1,
+      λ x o t. added_as (side-more _ _ more (context_at c.args.ds.now x.bodies) x.trees) (added_both (loop.invariant.2 x o t) (written x o (side-typed _ _ more t))),
+    )
+
+pub returns : goal.returns
+returns c =
+    let args = c.args in
+    let all = take_all c.loop-k.k args.side.now c.loop-k-test.false in
+    λ x o t. added_as (ap (pieces (context_at args.ds.now x.bodies) x.trees) all) (c.loop-k.invariant.2 x o t)

@@ -1,0 +1,15 @@
+-- The invariant: the answer is that for the words still to come. The measure is how many they are.
+use mathlib.Core.Path.{◌≡◌, refl, sym, ◌∙◌}
+use Prim.Native.Nat.{◌-◌, ◌≤◌}
+use native.Mathlib.Omega.{arith}
+use borrow.Author.Rules.{rules}
+use lib.ListN.{length, drop}
+use Rattle.words.specs.Listed.{lacks}
+use Rattle.step.proofs.Conditions.{lacks_here, lacks-more, lacks-end}
+use Rattle.step.proofs.equations.is_without.Given as goal
+
+abbrev pub invariant-loop-k : goal.invariant-loop-k
+invariant-loop-k l = (l.k ≤ length l.ws) × (lacks l.word l.ws ≡ lacks l.word (drop l.k l.ws))
+
+abbrev pub decreases-loop-k : goal.decreases-loop-k
+decreases-loop-k l = length l.ws - l.k

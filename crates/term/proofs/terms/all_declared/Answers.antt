@@ -1,0 +1,6 @@
+-- One of the two tests of all words.
+use borrow.Author.Rules.{rules}
+use Rattle.term.proofs.terms.all_declared.Goals as goal
+
+pub returns : goal.returns
+returns c = c.all_pass.ensures

@@ -1,0 +1,24 @@
+use mathlib.Core.Path.{◌≡◌, refl}
+use mathlib.Core.Bool.{Bool, cond}
+use Prim.Native.Nat.{ℕ, ◌-◌}
+use native.Mathlib.Omega.{arith}
+use borrow.Author.Rules.{rules}
+use lib.ListN.{length, drop}
+use Rattle.words.specs.Listed.{all}
+use Rattle.words.proofs.Listed.{all_more, all-fails, all_end}
+use Rattle.term.specs.declared.terms.Names.{Names}
+use Rattle.term.specs.Terms.{declared, index_word}
+use Rattle.term.proofs.terms.all_pass.Invariants.{test}
+use Rattle.term.proofs.terms.all_pass.Goals as goal
+
+pub loop-i-init : goal.loop-i-init
+loop-i-init c = refl
+
+pub returns-then-not-passes : goal.returns-then-not-passes
+returns-then-not-passes c = all-fails _ _ _ c.loop-i.invariant (omega arith) c.passes.ensures c.if-not-passes.true
+
+pub loop-i-preserved : goal.loop-i-preserved
+loop-i-preserved c = all_more _ _ _ c.loop-i.invariant (omega arith) c.passes.ensures c.if-not-passes.false
+
+pub returns : goal.returns
+returns c = all_end _ _ _ c.loop-i.invariant c.loop-i-test.false

@@ -1,0 +1,22 @@
+use mathlib.Core.Path.{◌≡◌, refl, sym, ◌∙◌}
+use mathlib.Core.Bool.{◌&&◌}
+use Prim.Native.Nat.{◌-◌, ◌≤◌}
+use native.Mathlib.Omega.{arith}
+use borrow.Author.Rules.{rules}
+use lib.ListN.{drop}
+use Rattle.text.specs.Bytes.{all_fine}
+use Rattle.text.proofs.Scanned.{fine_more, fine_end}
+use Rattle.text.proofs.pieces.are_fine.Goals as goal
+
+pub loop-i-init : goal.loop-i-init
+loop-i-init c = (omega arith, refl)
+
+pub loop-i-preserved : goal.loop-i-preserved
+loop-i-preserved c =
+    let loop = c.loop-i in
+    (omega arith, loop.invariant.1 ∙ fine_more loop.fine _ loop.i (omega arith) ∙ rw c.still_fine-fine.ensures)
+
+pub returns : goal.returns
+returns c =
+    let loop = c.loop-i in
+    sym (loop.invariant.1 ∙ fine_end loop.fine _ loop.i (omega arith))

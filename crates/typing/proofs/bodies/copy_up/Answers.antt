@@ -1,0 +1,34 @@
+use mathlib.Core.Path.{◌≡◌, sym, ◌∙◌}
+use Prim.Native.Nat.{◌-◌, ◌≤◌}
+use native.Mathlib.Omega.{arith}
+use borrow.Author.Rules.{rules}
+use lib.ListN.{length}
+use Rattle.words.specs.Words.{laid}
+use Rattle.typing.specs.Code.Shapes.{run}
+use Rattle.typing.proofs.Lying.{laid_same}
+use Rattle.typing.proofs.Binding.{copied_long, copied_more}
+use Rattle.typing.proofs.bodies.copy_up.Goals as goal
+
+-- the stack is as long as it was
+long : (c : goal.At-loop-i → length c.loop-i.stack ≡ length c.args.stack.now
+long c = copied_long _ c.args.from c.args.to c.loop-i.i (omega arith) (omega arith) c.loop-i.invariant.1
+
+pub loop-i-init : goal.loop-i-init
+loop-i-init c = (omega arith, sym (laid_same _ c.args.to 0 0 (omega arith)))
+
+pub bounds-stack-from : goal.bounds-stack-from
+bounds-stack-from c = omega (arith, long at)
+
+pub bounds-stack-to : goal.bounds-stack-to
+bounds-stack-to c = omega (arith, long at)
+
+pub loop-i-preserved : goal.loop-i-preserved
+loop-i-preserved c =
+    let t = c.loop-i-test.true in
+    (omega arith, copied_more _ c.args.from c.args.to c.loop-i.i (omega arith) (omega arith) (omega arith) (omega arith) c.loop-i.invariant.1)
+
+pub shape_of-stack : goal.shape_of-stack
+shape_of-stack c = long c
+
+pub returns : goal.returns
+returns c = let z : c.loop-i.i ≡ c.args.n = omega arith in c.loop-i.invariant.1 ∙ rw z

@@ -1,0 +1,6 @@
+-- Nothing is known but whether a sum is asked for.
+use borrow.Author.Rules.{rules}
+use Rattle.typing.proofs.gathering.none_yet.Goals as goal
+
+pub returns : goal.returns
+returns c = rw c.is_sum.ensures

@@ -1,8 +1,0 @@
--- Each kind by its arm.
-use borrow.Author.Tests.{ne_eqb}
-use Rattle.typing.proofs.lookup.sorted_by.Statement.{statement}
-use Rattle.typing.proofs.lookup.sorted_by.Tie as tie
-
-pub sorted-by-spec : {M : Type 1} → statement M
-sorted-by-spec = tie.close (tie.spec (λ c. rw c.match.keys1) (λ c. rw c.match.keys2) (λ c. rw c.match.keys3)
-    (λ c. let n = c.match.rest in rw (ne_eqb _ _ n.0.0.1, ne_eqb _ _ n.0.1, ne_eqb _ _ n.1)))

@@ -1,0 +1,19 @@
+-- One run behind the other.
+use mathlib.Core.Path.{◌∙◌}
+use mathlib.Core.Logic.{⊎_elim, inl, inr}
+use lib.ListN.{length-set}
+use Rattle.typing.proofs.Concluding.{put-plain, put-product}
+use borrow.Author.Rules.{rules}
+use Rattle.typing.proofs.rules.put_side.Goals as goal
+
+pub shape_of-made-then-p-ne0 : goal.shape_of-made-then-p-ne0
+shape_of-made-then-p-ne0 c = c.put_run.ensures.size ∙ c.put_run-end.ensures.size ∙ simp length-set
+
+pub returns-then-p-ne0 : goal.returns-then-p-ne0
+returns-then-p-ne0 c = let args = c.args in
+    put-product args.stack.now args.p args.q c.if-product.true c.if-p-ne0.true c.requires.1 c.requires.0 c.put_run-end.ensures
+    c.put_run.ensures
+
+pub returns : goal.returns
+returns c = let args = c.args in
+    put-plain args.stack.now args.p args.q (⊎_elim (λ w. inr w.2.left) (λ w. inl w.left) c.if-product.branch) c.put_run-2.ensures
