@@ -4,7 +4,7 @@ use Rattle.shapes.proofs.Walks.{Walking, Turned, walk_begin, walk_end, walk_unkn
 use Rattle.shapes.proofs.binder_of.Goals as goal
 
 -- what is told at a turn
-turned : (c : goal.After-arity_of → let args = c.args in
+turned : (c : goal.After-arity_of) → let args = c.args in
     Turned args.ws.now args.at args.a c.loop-i.i c.loop-i.parts c.loop-i.false c.word_at-word.result c.arity_of.result
 turned c = record { walking = c.loop-i.invariant; more = c.loop-i-test.true; word-is = c.word_at-word.ensures; arity_is = c.arity_of.ensures }
 

@@ -6,7 +6,7 @@ use Rattle.shapes.proofs.Steps.{there, Turning, class-none, class_variable, clas
 use Rattle.shapes.proofs.class_of.Goals as goal
 
 -- what is told at a turn
-turning : (c : goal.After-word_at-word → let args = c.args in
+turning : (c : goal.After-word_at-word) → let args = c.args in
     Turning args.ds.now args.ws.now c.loop-left.false c.loop-left.at c.word_at-word.result c.loop-left.turned (class_at args.ds.now args.ws.now args.budget args.from)
 turning c = record { some = c.loop-left-test.true; word-is = c.word_at-word.ensures; same = c.loop-left.invariant }
 

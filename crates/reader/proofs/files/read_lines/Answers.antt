@@ -9,7 +9,7 @@ use Rattle.reader.proofs.Walked.{Standing, Within, standing-start, in_bounds, li
 use borrow.Author.Rules.{rules}
 use Rattle.reader.proofs.files.read_lines.Goals as goal
 
-within : (c : goal.After-piece_at-span → Within c.loop-ended.at c.piece_at-span.result (start c).args.bytes.now
+within : (c : goal.After-piece_at-span) → Within c.loop-ended.at c.piece_at-span.result (start c).args.bytes.now
 within c = (line_at c.loop-ended.invariant c.loop-ended-test.true c.piece_at-span.ensures).within
 
 pub returns-then-bad-ne0 : goal.returns-then-bad-ne0

@@ -9,7 +9,7 @@ use borrow.Author.Rules.{rules}
 use Rattle.reader.proofs.keys.key_in.Goals as goal
 
 -- the k-th key in its place
-place : (c : goal.After-key_length → Placed c.args.keys.now c.loop-k.k
+place : (c : goal.After-key_length) → Placed c.args.keys.now c.loop-k.k
 place c = let pre = c.requires in placed _ _ pre.0 pre.1 c.loop-k-test.true
 
 pub loop-k-init : goal.loop-k-init

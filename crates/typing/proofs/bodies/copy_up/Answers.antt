@@ -10,7 +10,7 @@ use Rattle.typing.proofs.Binding.{copied_long, copied_more}
 use Rattle.typing.proofs.bodies.copy_up.Goals as goal
 
 -- the stack is as long as it was
-long : (c : goal.At-loop-i → length c.loop-i.stack ≡ length c.args.stack.now
+long : (c : goal.At-loop-i) → length c.loop-i.stack ≡ length c.args.stack.now
 long c = copied_long _ c.args.from c.args.to c.loop-i.i (omega arith) (omega arith) c.loop-i.invariant.1
 
 pub loop-i-init : goal.loop-i-init
