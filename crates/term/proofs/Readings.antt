@@ -128,6 +128,7 @@ module _ (k : ℕ) where
 
   pub counted-read : (n : ℕ) (l : Label) (c c' : Class) → get_or heads k unknown ≡ counted l c c' → 1 ≤ n → n ≤ 255 → read (word l n) ≡ labelled l n
   unfolding word reading
+  counted-read zero l c c' e some few = elim some [ ]
   counted-read (suc n) l c c' e some few = rw (line_word (counted l c c') e (suc n), read_at k (suc n) (omega arith), e, eqb-suc-zero)
 
 -- ---- a test that every line of the table passes

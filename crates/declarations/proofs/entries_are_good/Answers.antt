@@ -18,10 +18,10 @@ loop-a-init c = (omega arith, below_none _)
 pub returns-then-not-entry_is_good : goal.returns-then-not-entry_is_good
 returns-then-not-entry_is_good c =
     let a = c.loop-a.a in
-    sym (all_up_to-fails _ _ a (omega arith) (sym c.entry_is_good.ensures ∙ not-true _ c.if-not-entry_is_good.true))
+    sym (all_up_to-fails _ _ a (omega arith) (sym c.entry_is_good.ensures ∙ c.if-not-entry_is_good.true))
 
 pub loop-a-preserved : goal.loop-a-preserved
-loop-a-preserved c = (omega arith, below_more _ _ c.loop-a.invariant.1 (sym c.entry_is_good.ensures ∙ not-false _ c.if-not-entry_is_good.false))
+loop-a-preserved c = (omega arith, below_more _ _ c.loop-a.invariant.1 (sym c.entry_is_good.ensures ∙ c.if-not-entry_is_good.false))
 
 pub returns : goal.returns
 returns c =

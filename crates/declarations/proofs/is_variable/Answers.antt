@@ -8,17 +8,17 @@ use Rattle.declarations.proofs.is_variable.Goals as goal
 
 pub returns-then-not-marks_square : goal.returns-then-not-marks_square
 unfolding is_variable
-returns-then-not-marks_square c = rw (sym c.marks_square.ensures ∙ not-true _ c.if-not-marks_square.true)
+returns-then-not-marks_square c = rw (sym c.marks_square.ensures ∙ c.if-not-marks_square.true)
 
 pub returns-then-not-is_wanted : goal.returns-then-not-is_wanted
 unfolding is_variable
 returns-then-not-is_wanted c =
-    let square = sym c.marks_square.ensures ∙ not-false _ c.if-not-marks_square.false in
-    rw (square, sym c.is_wanted.ensures ∙ not-true _ c.if-not-is_wanted.true)
+    let square = sym c.marks_square.ensures ∙ c.if-not-marks_square.false in
+    rw (square, sym c.is_wanted.ensures ∙ c.if-not-is_wanted.true)
 
 pub returns : goal.returns
 unfolding is_variable
 returns c =
-    let square = sym c.marks_square.ensures ∙ not-false _ c.if-not-marks_square.false in
-    let first = sym c.is_wanted.ensures ∙ not-false _ c.if-not-is_wanted.false in
+    let square = sym c.marks_square.ensures ∙ c.if-not-marks_square.false in
+    let first = sym c.is_wanted.ensures ∙ c.if-not-is_wanted.false in
     rw (square, first, turned) c.is_wanted-2.ensures

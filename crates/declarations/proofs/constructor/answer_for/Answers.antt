@@ -9,11 +9,12 @@ use Rattle.term.specs.Terms.{max_names}
 use Rattle.declarations.specs.declared.constructor.Put.TheVariants.{Done, Full}
 use Rattle.declarations.specs.Put.{room, answer}
 use Rattle.declarations.proofs.constructor.answer_for.Goals as goal
+use Rattle.declarations.proofs.constructor.answer_for.Goals.{Else-not-are_counts}
 
 -- behind two tests there is room unless the count is full
-room-here : (c : goal.Else-not-are_counts) → let a = c.args in room a.ds.now a.k ≡ cond (eqb (get_or a.ds.now a.k 0) max_names) Full Done
+room-here : (c : Else-not-are_counts) → let a = c.args in room a.ds.now a.k ≡ cond (eqb (get_or a.ds.now a.k 0) max_names) Full Done
 unfolding room
-room-here c = rw (eq-eqb _ _ c.if-ds-ne-SIZE.false, sym c.are_counts.ensures ∙ not-false _ c.if-not-are_counts.false)
+room-here c = rw (eq-eqb _ _ c.if-ds-ne-SIZE.false, sym c.are_counts.ensures ∙ c.if-not-are_counts.false)
 
 pub returns-then-ds-ne-SIZE : goal.returns-then-ds-ne-SIZE
 unfolding answer room
@@ -21,16 +22,16 @@ returns-then-ds-ne-SIZE c = rw (ne_eqb _ _ c.if-ds-ne-SIZE.true)
 
 pub returns-then-not-are_counts : goal.returns-then-not-are_counts
 unfolding answer room
-returns-then-not-are_counts c = rw (eq-eqb _ _ c.if-ds-ne-SIZE.false, sym c.are_counts.ensures ∙ not-true _ c.if-not-are_counts.true)
+returns-then-not-are_counts c = rw (eq-eqb _ _ c.if-ds-ne-SIZE.false, sym c.are_counts.ensures ∙ c.if-not-are_counts.true)
 
 pub returns-then-ds-k-eq32 : goal.returns-then-ds-k-eq32
 unfolding answer
-returns-then-ds-k-eq32 c = rw (room-here c, eq-eqb _ _ c.if-ds-k-eq32.true)
+returns-then-ds-k-eq32 c = rw (room-here c.before.before, eq-eqb _ _ c.if-ds-k-eq32.true)
 
 pub returns-then-fits : goal.returns-then-fits
 unfolding answer
-returns-then-fits c = rw (room-here c, ne_eqb _ _ c.if-ds-k-eq32.false, c.if-fits.true)
+returns-then-fits c = rw (room-here c.before.before.before, ne_eqb _ _ c.if-ds-k-eq32.false, c.if-fits.true)
 
 pub returns : goal.returns
 unfolding answer
-returns c = rw (room-here c, ne_eqb _ _ c.if-ds-k-eq32.false, c.if-fits.false)
+returns c = rw (room-here c.before.before.before, ne_eqb _ _ c.if-ds-k-eq32.false, c.if-fits.false)

@@ -7,10 +7,11 @@ use lib.ListN.{length}
 use Rattle.families.proofs.Split.{some_word, split, child-bounds}
 use Rattle.families.proofs.Tested.{other_parent, no_such, other_child, both_fit}
 use Rattle.families.proofs.children.child_under.Goals as goal
+use Rattle.families.proofs.children.child_under.Goals.{Else-not-c}
 
 -- the child lies in the words
-inside : (c : goal.Else-not-c) → c.child_at-c.result.start < length c.args.ws.now
-inside c = omega (arith, child-bounds (split c.requires c.child_at-c.ensures (not-false _ c.if-not-c.false)))
+inside : (c : Else-not-c) → c.child_at-c.result.start < length c.args.ws.now
+inside c = omega (arith, child-bounds (split c.requires c.child_at-c.ensures c.if-not-c.false))
 
 pub bounds-ws-0 : goal.bounds-ws-0
 bounds-ws-0 c = some_word c.requires
@@ -19,17 +20,17 @@ pub returns-then-ws-parent : goal.returns-then-ws-parent
 returns-then-ws-parent c = other_parent c.if-ws-parent.true
 
 pub returns-then-not-c : goal.returns-then-not-c
-returns-then-not-c c = no_such c.child_at-c.ensures (not-true _ c.if-not-c.true)
+returns-then-not-c c = no_such c.child_at-c.ensures c.if-not-c.true
 
 pub offset_bounds-ws-start : goal.offset_bounds-ws-start
 offset_bounds-ws-start c = omega (arith, inside c)
 
 pub bounds-ws-start : goal.bounds-ws-start
-bounds-ws-start c = inside c
+bounds-ws-start c = inside c.before
 
 pub returns-then-ws-start : goal.returns-then-ws-start
 returns-then-ws-start c = other_child c.child_at-c.ensures c.if-ws-start.true
 
 pub returns : goal.returns
 returns c =
-    both_fit c.child_at-c.ensures c.if-ws-parent.false (not-false _ c.if-not-c.false) c.if-ws-start.false
+    both_fit c.child_at-c.ensures c.if-ws-parent.false c.if-not-c.false c.if-ws-start.false

@@ -9,15 +9,16 @@ use Rattle.families.proofs.Written.{refuses, writes}
 use Rattle.families.proofs.Spread.{spreads-none, spreads-child, spread-words, spread_nodes_few}
 use Rattle.families.proofs.Summands.{Passed, passed_none, passed-bounds, passed-more, passed-all}
 use Rattle.families.proofs.spreading.spread.Goals as goal
+use Rattle.families.proofs.spreading.spread.Goals.{Else-not-c}
 
 -- the part at the child that was found
-at-child : (c : goal.Else-not-c
+at-child : (c : Else-not-c
     → let args = c.args in
     Split args.ws.now args.k c.child_under-c.result.start c.child_under-c.result.end
-at-child c = found c.requires.0 c.child_under-c.ensures (not-false _ c.if-not-c.false)
+at-child c = found c.requires.0 c.child_under-c.ensures c.if-not-c.false
 
 pub returns-then-not-c : goal.returns-then-not-c
-returns-then-not-c c = λ l s r w i P S R u e Γ. refuses _ (spreads-none P S c.requires.0 c.child_under-c.ensures Γ r w i u e (not-true _ c.if-not-c.true))
+returns-then-not-c c = λ l s r w i P S R u e Γ. refuses _ (spreads-none P S c.requires.0 c.child_under-c.ensures Γ r w i u e c.if-not-c.true)
 
 pub offset_bounds-ws-start : goal.offset_bounds-ws-start
 offset_bounds-ws-start c = omega (arith, child-bounds (at-child c))
@@ -50,7 +51,7 @@ pub returns : goal.returns
 returns c = λ l s r w i P S R u e Γ.
     let v = c.requires.0 in
     let z = c.child_under-c.ensures in
-    let t = not-false _ c.if-not-c.false in
+    let t = c.if-not-c.false in
     let all = added_both (appended c.append_word-done.ensures) (passed-all c.loop-next.invariant c.loop-next-test.false) in
     let p = c.loop-next.invariant.split in
     writes _ _ (spreads-child P S v z t p Γ r w i u e) (spread_nodes_few P S v z t p r) (added_as (spread-words P S v z t p R) all)

@@ -16,11 +16,11 @@ pub returns-then-not-is_side : goal.returns-then-not-is_side
 unfolding sided
 returns-then-not-is_side c =
     let k = c.loop-k.k in
-    sym (all_up_to-fails _ _ k (omega arith) (sym c.is_side.ensures ∙ not-true _ c.if-not-is_side.true))
+    sym (all_up_to-fails _ _ k (omega arith) (sym c.is_side.ensures ∙ c.if-not-is_side.true))
 
 pub loop-k-preserved : goal.loop-k-preserved
 unfolding sided
-loop-k-preserved c = (omega arith, below_more _ _ c.loop-k.invariant.1 (sym c.is_side.ensures ∙ not-false _ c.if-not-is_side.false))
+loop-k-preserved c = (omega arith, below_more _ _ c.loop-k.invariant.1 (sym c.is_side.ensures ∙ c.if-not-is_side.false))
 
 pub returns : goal.returns
 returns c =

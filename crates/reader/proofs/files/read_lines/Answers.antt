@@ -8,8 +8,9 @@ use Rattle.reader.proofs.Entered.{lines-found}
 use Rattle.reader.proofs.Walked.{Standing, Within, standing-start, in_bounds, line_at, line_refused, line_taken_lem, ends, found-fault}
 use borrow.Author.Rules.{rules}
 use Rattle.reader.proofs.files.read_lines.Goals as goal
+use Rattle.reader.proofs.files.read_lines.Goals.{After-piece_at-span}
 
-within : (c : goal.After-piece_at-span) → Within c.loop-ended.at c.piece_at-span.result (start c).args.bytes.now
+within : (c : After-piece_at-span) → Within c.loop-ended.at c.piece_at-span.result c.args.bytes.now
 within c = (line_at c.loop-ended.invariant c.loop-ended-test.true c.piece_at-span.ensures).within
 
 pub returns-then-bad-ne0 : goal.returns-then-bad-ne0
@@ -36,20 +37,20 @@ pub take_line-taken-requires : goal.take_line-taken-requires
 take_line-taken-requires c = let h = c.loop-ended.invariant in let z = h.sizes in let b = in_bounds h.rest in (z.0, z.1, z.2, b.0, b.1)
 
 pub shape_of-ds-then-fault-ne0 : goal.shape_of-ds-then-fault-ne0
-shape_of-ds-then-fault-ne0 c = let t = taken c in t.take-line.ensures.0 ∙ (loop t).loop.inv.sizes.0 ∙ sym (start (loop t)).pre.0
+shape_of-ds-then-fault-ne0 c = let t = c in t.take-line.ensures.0 ∙ (loop t).loop.inv.sizes.0 ∙ sym (start (loop t)).pre.0
 
 pub shape_of-ls-then-fault-ne0 : goal.shape_of-ls-then-fault-ne0
-shape_of-ls-then-fault-ne0 c = let t = taken c in t.take-line.ensures.1 ∙ (loop t).loop.inv.sizes.1 ∙ sym (start (loop t)).pre.1
+shape_of-ls-then-fault-ne0 c = let t = c in t.take-line.ensures.1 ∙ (loop t).loop.inv.sizes.1 ∙ sym (start (loop t)).pre.1
 
 pub shape_of-rs-then-fault-ne0 : goal.shape_of-rs-then-fault-ne0
-shape_of-rs-then-fault-ne0 c = let t = taken c in t.take-line.ensures.2 ∙ (loop t).loop.inv.sizes.2 ∙ sym (start (loop t)).pre.2
+shape_of-rs-then-fault-ne0 c = let t = c in t.take-line.ensures.2 ∙ (loop t).loop.inv.sizes.2 ∙ sym (start (loop t)).pre.2
 
 pub shape_of-ms-then-fault-ne0 : goal.shape_of-ms-then-fault-ne0
-shape_of-ms-then-fault-ne0 c = let t = taken c in t.take-line.ensures.3 ∙ (loop t).loop.inv.sizes.3 ∙ sym (start (loop t)).pre.3
+shape_of-ms-then-fault-ne0 c = let t = c in t.take-line.ensures.3 ∙ (loop t).loop.inv.sizes.3 ∙ sym (start (loop t)).pre.3
 
 pub returns-then-fault-ne0 : goal.returns-then-fault-ne0
 returns-then-fault-ne0 c =
-    let t = taken c in
+    let t = c in
     let piece = t.before.before.before.before.before.before in
     let good = tested (loop t) in
     lines-found _ good.before.before.bytes-fault.ensures good.if1.left
@@ -57,32 +58,32 @@ returns-then-fault-ne0 c =
 
 pub overflow_add-line : goal.overflow_add-line
 overflow_add-line c =
-    let w = within c in
-    let l = (loop c).loop.invariant.counted in
-    let good = tested (loop c) in
+    let w = within c.before.before.before.before.before.before.before.before.before.before.before.before.before.before.before.before.before.before in
+    let l = c.loop.invariant.counted in
+    let good = c in
     let b = good.before.before.bytes-fault.ensures.few good.if1.left in
     omega arith
 
 pub loop-ended-smaller : goal.loop-ended-smaller
-loop-ended-smaller c = let w = within c in omega arith
+loop-ended-smaller c = let w = within c.before.before.before.before.before.before.before.before.before.before.before.before.before.before.before.before.before.before in omega arith
 
 pub loop-ended-preserved : goal.loop-ended-preserved
 loop-ended-preserved c =
-    line_taken_lem (loop c).loop.invariant c.loop-ended-test.true c.piece_at-span.ensures c.take_line-taken.ensures c.if-fault-ne0.false
+    line_taken_lem c.loop.invariant c.loop-ended-test.true c.piece_at-span.ensures c.take_line-taken.ensures c.if-fault-ne0.false
 
 pub shape_of-ds : goal.shape_of-ds
-shape_of-ds c = c.loop-ended.invariant.sizes.0 ∙ sym (start c).requires.0
+shape_of-ds c = c.loop-ended.invariant.sizes.0 ∙ sym c.requires.0
 
 pub shape_of-ls : goal.shape_of-ls
-shape_of-ls c = c.loop-ended.invariant.sizes.1 ∙ sym (start c).requires.1
+shape_of-ls c = c.loop-ended.invariant.sizes.1 ∙ sym c.requires.1
 
 pub shape_of-rs : goal.shape_of-rs
-shape_of-rs c = c.loop-ended.invariant.sizes.2 ∙ sym (start c).requires.2
+shape_of-rs c = c.loop-ended.invariant.sizes.2 ∙ sym c.requires.2
 
 pub shape_of-ms : goal.shape_of-ms
-shape_of-ms c = c.loop-ended.invariant.sizes.3 ∙ sym (start c).requires.3
+shape_of-ms c = c.loop-ended.invariant.sizes.3 ∙ sym c.requires.3
 
 pub returns : goal.returns
 returns c =
-    let good = tested at in
+    let good = c in
     lines-found _ good.before.before.bytes-fault.ensures good.if1.left (ends c.loop-ended.invariant c.loop-ended-test.false c.ended_in.ensures)

@@ -7,9 +7,10 @@ use Rattle.reader.specs.Code.Keys as Code
 use Rattle.reader.proofs.Keyed.{Placed, placed, tested, key_found, key_passed, no_key}
 use borrow.Author.Rules.{rules}
 use Rattle.reader.proofs.keys.key_in.Goals as goal
+use Rattle.reader.proofs.keys.key_in.Goals.{After-key_length}
 
 -- the k-th key in its place
-place : (c : goal.After-key_length) → Placed c.args.keys.now c.loop-k.k
+place : (c : After-key_length) → Placed c.args.keys.now c.loop-k.k
 place c = let pre = c.requires in placed _ _ pre.0 pre.1 c.loop-k-test.true
 
 pub loop-k-init : goal.loop-k-init
@@ -31,12 +32,12 @@ slice_bounds-starts_with-end c = let p = place c in search rules
 pub returns-then-starts_with : goal.returns-then-starts_with
 returns-then-starts_with c =
     let loop = c.loop-k in
-    (omega arith, key_found _ loop.invariant.1 c.loop-k-test.true (tested _ (place at) c.key_length.ensures c.starts_with.ensures c.if-starts_with.true))
+    (omega arith, key_found _ loop.invariant.1 c.loop-k-test.true (tested _ (place c.before.before.before) c.key_length.ensures c.starts_with.ensures c.if-starts_with.true))
 
 pub loop-k-preserved : goal.loop-k-preserved
 loop-k-preserved c =
     let loop = c.loop-k in
-    (omega arith, key_passed _ loop.invariant.1 c.loop-k-test.true (tested _ (place at) c.key_length.ensures c.starts_with.ensures c.if-starts_with.false))
+    (omega arith, key_passed _ loop.invariant.1 c.loop-k-test.true (tested _ (place c.before.before.before) c.key_length.ensures c.starts_with.ensures c.if-starts_with.false))
 
 pub returns : goal.returns
 returns c = let h = c.loop-k.invariant.0 in (omega arith, no_key _ {k = c.loop-k.k} c.loop-k.invariant.1 (omega arith))

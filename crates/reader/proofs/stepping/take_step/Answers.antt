@@ -15,11 +15,11 @@ returns-in_default c =
 pub returns-then-not-read_fields : goal.returns-then-not-read_fields
 returns-then-not-read_fields c =
     let read = rw c.in-Named.is at c.read_side.ensures in
-    let none = (c.read_fields.ensures.1 _ read).none (not-true _ c.if-not-read_fields.true) in
+    let none = (c.read_fields.ensures.1 _ read).none c.if-not-read_fields.true in
     no_step _ _ _ _ c.if-k-eq-MOST_STEPS.false none c.refused-then-not-read_fields.ensures
 
 pub returns : goal.returns
 returns c =
     let read = rw c.in-Named.is at c.read_side.ensures in
-    let move = (c.read_fields.ensures.1 _ read).move (not-false _ c.if-not-read_fields.false) in
+    let move = (c.read_fields.ensures.1 _ read).move c.if-not-read_fields.false in
     a_step _ _ _ _ c.if-k-eq-MOST_STEPS.false move c.refused-2.ensures c.put_step.ensures.1

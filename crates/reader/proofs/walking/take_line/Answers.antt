@@ -10,7 +10,7 @@ use Rattle.reader.proofs.walking.take_line.Goals as goal
 pub returns-then-not-is_next : goal.returns-then-not-is_next
 returns-then-not-is_next c =
     let k = c.key_of-k.ensures.1 in
-    (refl, refl, refl, refl, λ f h. rw (line_by _ f _ k refl, k) (disordered _ _ f _ (sym c.is_next.ensures ∙ not-true _ c.if-not-is_next.true) c.refused.ensures))
+    (refl, refl, refl, refl, λ f h. rw (line_by _ f _ k refl, k) (disordered _ _ f _ (sym c.is_next.ensures ∙ c.if-not-is_next.true) c.refused.ensures))
 
 pub slice_bounds-take_value-count : goal.slice_bounds-take_value-count
 slice_bounds-take_value-count c = let w = key_within _ c.key_of-k.ensures.1 c.key_length-at.ensures in omega arith
@@ -22,5 +22,5 @@ pub returns : goal.returns
 returns c =
     let told = c.take_value-fault.ensures in
     let k = c.key_of-k.ensures.1 in
-    let fit = sym c.is_next.ensures ∙ not-false _ c.if-not-is_next.false in
+    let fit = sym c.is_next.ensures ∙ c.if-not-is_next.false in
     (told.0, told.1, told.2, told.3, λ f h. rw (line_by _ f _ k c.key_length-at.ensures, k) (line_after _ _ f _ fit h c.moved.ensures (told.4 f h fit)))

@@ -121,7 +121,3 @@ returns-in-27 c = search rules
 pub returns-in-28 : goal.returns-in-28
 unfolding line_at
 returns-in-28 c = search rules
-
-pub returns-in_default : goal.returns-in_default
-unfolding Others
-returns-in_default c = sym (line-past _ (others_from 29 c.args.head c.in-0.rest))

@@ -6,11 +6,6 @@ use borrow.Author.Rules.{rules}
 use Rattle.term.proofs.Levels.{Back, back-begin, back_end, back_below, back_whole, back-unknown}
 use Rattle.term.proofs.parts.level_at.Goals as goal
 
-pub loop-i-init : goal.loop-i-init
-loop-i-init c =
-    let l = length-take c.args.at c.args.ws.now in
-    back-begin _ _ _ (⊎_elim (λ w. omega arith) (λ w. omega arith) c.if-at-ws.branch)
-
 pub loop-i-preserved-then-parts-n : goal.loop-i-preserved-then-parts-n
 loop-i-preserved-then-parts-n c =
     let loop = c.loop-i in

@@ -8,9 +8,10 @@ use Rattle.term.specs.Heads.{arity_of}
 use Rattle.term.proofs.Extents.{Walked, walked-begin, walked_end, walked-close, walked-past, walked-unknown, walked_open}
 use Rattle.term.proofs.Rows.{walked_over}
 use Rattle.term.proofs.parts.walk.Goals as goal
+use Rattle.term.proofs.parts.walk.Goals.{Else-words-i}
 
 -- a word that is read stands in one of the two slices
-inside : (c : goal.Else-words-i) → let args = c.args in c.loop-left.i < length (args.front.now ++ args.back.now)
+inside : (c : Else-words-i) → let args = c.args in c.loop-left.i < length (args.front.now ++ args.back.now)
 inside c = let args = c.args in omega (arith, c.if-words-i.false, length-append args.front.now args.back.now)
 
 pub loop-left-init : goal.loop-left-init
@@ -45,7 +46,7 @@ shape_of-outer-in_default c = c.loop-left.invariant.0
 
 pub returns-in_default : goal.returns-in_default
 returns-in_default c = λ e.
-    let t = walked-unknown c.loop-left.invariant.1 c.if-left-eq0.false (inside at) (rw c.word_of.ensures at (sym c.arity_of.ensures ∙ c.in_default.is)) in
+    let t = walked-unknown c.loop-left.invariant.1 c.if-left-eq0.false (inside c.before.before.before.before.before) (rw c.word_of.ensures at (sym c.arity_of.ensures ∙ c.in_default.is)) in
     (c.told-in_default.ensures.1 ∙ t.0, c.told-in_default.ensures.2 ∙ t.1)
 
 pub overflow_add-level : goal.overflow_add-level
@@ -60,7 +61,7 @@ loop-left-preserved-then-leaves_of_both-n c =
     let all = c.if-leaves_of_both-n.true in
     let wanted = rw c.word_of.ensures at (sym c.arity_of.ensures ∙ c.in-Children.is) in
     let args = c.args in
-    let w = walked_over loop.invariant.1 c.if-left-eq0.false _ (inside at) (omega (arith, ahead.1, all, length-append args.front.now args.back.now)) wanted (rw all at ahead.2) in
+    let w = walked_over loop.invariant.1 c.if-left-eq0.false _ (inside c.before.before.before.before.before.before.before.before.before) (omega (arith, ahead.1, all, length-append args.front.now args.back.now)) wanted (rw all at ahead.2) in
     (loop.invariant.0, rw (c.larger-deepest.ensures, c.depth_over.ensures.0) w)
 
 pub shape_of-outer-then-outer-level : goal.shape_of-outer-then-outer-level
@@ -74,5 +75,5 @@ loop-left-preserved c =
     let loop = c.loop-left in
     let wanted = rw c.word_of.ensures at (sym c.arity_of.ensures ∙ c.in-Children.is) in (
       length-set loop.outer loop.level (loop.left - 1) ∙ loop.invariant.0,
-      rw c.larger-deepest-else-leaves_of_both-n.ensures (walked_open loop.invariant.1 c.if-left-eq0.false (inside at) _ wanted (omega arith)),
+      rw c.larger-deepest-else-leaves_of_both-n.ensures (walked_open loop.invariant.1 c.if-left-eq0.false (inside c.before.before.before.before.before.before.before.before.before) _ wanted (omega arith)),
     )

@@ -11,7 +11,7 @@ use borrow.Author.Rules.{rules}
 use Rattle.text.proofs.numbers.read_number.Goals as goal
 
 pub returns-then-not-is_well_begun : goal.returns-then-not-is_well_begun
-returns-then-not-is_well_begun c = number_unbegun _ (sym c.is_well_begun.ensures ∙ not-true _ c.if-not-is_well_begun.true)
+returns-then-not-is_well_begun c = number_unbegun _ (sym c.is_well_begun.ensures ∙ c.if-not-is_well_begun.true)
 
 pub loop-i-init : goal.loop-i-init
 loop-i-init c = (refl, (0, refl, refl))
@@ -24,7 +24,7 @@ returns-then-not-is_digit c =
 pub grown-value-requires : goal.grown-value-requires
 grown-value-requires c =
     let e = c.loop-i.invariant.1.1 in
-    let d = digit-is _ (sym c.is_digit.ensures ∙ not-false _ c.if-not-is_digit.false) in
+    let d = digit-is _ (sym c.is_digit.ensures ∙ c.if-not-is_digit.false) in
     (omega arith, d.0)
 
 pub loop-i-preserved : goal.loop-i-preserved
@@ -40,5 +40,5 @@ returns c =
     let inv = c.loop-i.invariant in
     let i = c.loop-i.i in
     let end = c.loop-i-test.false in
-    let begun = sym c.is_well_begun.ensures ∙ not-false _ c.if-not-is_well_begun.false in
+    let begun = sym c.is_well_begun.ensures ∙ c.if-not-is_well_begun.false in
     rw inv.1.1 (number_value _ begun (sym (all_end is_digit _ i inv.0 end)) (inv.1.2 ∙ value_end _ i _ end))

@@ -16,7 +16,7 @@ loop-i-init c = (omega arith, omega arith, refl)
 pub returns-then-not-is_printable : goal.returns-then-not-is_printable
 returns-then-not-is_printable c =
     let loop = c.loop-i in
-    sym (loop.invariant.2 ∙ bad-found _ _ _ loop.i (omega arith) c.if-byte-eq10.false (sym c.is_printable.ensures ∙ not-true _ c.if-not-is_printable.true))
+    sym (loop.invariant.2 ∙ bad-found _ _ _ loop.i (omega arith) c.if-byte-eq10.false (sym c.is_printable.ensures ∙ c.if-not-is_printable.true))
 
 pub loop-i-preserved : goal.loop-i-preserved
 loop-i-preserved c =
@@ -24,7 +24,7 @@ loop-i-preserved c =
     let i = c.loop-i.i in
     ⊎_elim
     (λ w. (omega arith, omega arith, inv.2 ∙ bad_feed _ _ _ i (omega arith) w.0.taken ∙ rw (w.1, w.2)))
-    (λ w. (omega arith, omega arith, inv.2 ∙ bad-fine _ _ _ i (omega arith) w.0.left (sym w.1.ensures ∙ not-false _ w.2.left) ∙ rw (w.3, w.4)))
+    (λ w. (omega arith, omega arith, inv.2 ∙ bad-fine _ _ _ i (omega arith) w.0.left (sym w.1.ensures ∙ w.2.left) ∙ rw (w.3, w.4)))
     c.if-byte-eq10.branch
 
 pub returns-then-ended : goal.returns-then-ended

@@ -9,9 +9,10 @@ use Rattle.typing.specs.Code.Chains.{budget_of, record_at, entered, entered_on}
 use Rattle.typing.proofs.Binding.{index_few, two-set}
 use Rattle.typing.proofs.Packing.{one_less, unpacked}
 use Rattle.typing.proofs.bodies.enter.Goals as goal
+use Rattle.typing.proofs.bodies.enter.Goals.{After-bodies_of}
 
 -- what is packed is small
-few : (c : goal.After-bodies_of) → (c.budget_of.result ≤ 64) × (c.bodies_of.result < 64)
+few : (c : After-bodies_of) → (c.budget_of.result ≤ 64) × (c.bodies_of.result < 64)
 few c = let h = c.requires in let e = c.budget_of.ensures in let f = c.bodies_of.ensures in (omega arith, omega arith)
 
 pub enters-requires : goal.enters-requires
@@ -26,7 +27,7 @@ pub returns-then-not-enters : goal.returns-then-not-enters
 unfolding entered entered_on
 returns-then-not-enters c =
     let l = one_less _ c.requires.some in
-    let no' = sym c.enters.ensures ∙ not-true _ c.if-not-enters.true in
+    let no' = sym c.enters.ensures ∙ c.if-not-enters.true in
     record { around_is = rw no' l.0; budget_is = l.1; stack_is = rw no' }
 
 pub overflow_add-at : goal.overflow_add-at
@@ -115,7 +116,7 @@ returns c =
     let h = c.requires in
     let f = few c in
     let l = unpacked (c.budget_of.result - 1) (c.bodies_of.result + 1) (record_at c.args.top c.args.first) (omega arith) (omega arith) in
-    let yes = sym c.enters.ensures ∙ not-false _ c.if-not-enters.false in
+    let yes = sym c.enters.ensures ∙ c.if-not-enters.false in
     record {
       around_is = rw yes (l.0 ∙ rw c.bodies_of.ensures);
       budget_is = l.1 ∙ rw c.budget_of.ensures;

@@ -13,11 +13,11 @@ pub returns-then-ws-ne4096 : goal.returns-then-ws-ne4096
 returns-then-ws-ne4096 c = c.refused_with.ensures ∙ sym (wrong_size _ _ _ c.if-ws-ne4096.true)
 
 pub returns-then-not-are_good : goal.returns-then-not-are_good
-returns-then-not-are_good c = c.refused_with-then-not-are_good.ensures ∙ sym (bad_declarations _ _ _ c.if-ws-ne4096.false (sym c.are_good.ensures ∙ not-true _ c.if-not-are_good.true))
+returns-then-not-are_good c = c.refused_with-then-not-are_good.ensures ∙ sym (bad_declarations _ _ _ c.if-ws-ne4096.false (sym c.are_good.ensures ∙ c.if-not-are_good.true))
 
 pub returns-then-n-gt4096 : goal.returns-then-n-gt4096
 returns-then-n-gt4096 c =
-    c.refused_with-then-n-gt4096.ensures ∙ sym (no_term _ _ _ c.if-ws-ne4096.false (sym c.are_good.ensures ∙ not-false _ c.if-not-are_good.false) (term-past _ _ _ (omega arith)))
+    c.refused_with-then-n-gt4096.ensures ∙ sym (no_term _ _ _ c.if-ws-ne4096.false (sym c.are_good.ensures ∙ c.if-not-are_good.false) (term-past _ _ _ (omega arith)))
 
 pub slice_bounds-typed_in-end : goal.slice_bounds-typed_in-end
 slice_bounds-typed_in-end c = sym (length-take-le _ _ (omega arith))
@@ -25,8 +25,8 @@ slice_bounds-typed_in-end c = sym (length-take-le _ _ (omega arith))
 pub typed_in-requires : goal.typed_in-requires
 typed_in-requires c =
     let args = c.args in
-    rw (length-take-le args.n args.ws.now (omega arith)) (sym c.are_good.ensures ∙ not-false _ c.if-not-are_good.false, omega arith)
+    rw (length-take-le args.n args.ws.now (omega arith)) (sym c.are_good.ensures ∙ c.if-not-are_good.false, omega arith)
 
 pub returns : goal.returns
 returns c =
-    c.typed_in.ensures ∙ within _ _ _ c.if-ws-ne4096.false (sym c.are_good.ensures ∙ not-false _ c.if-not-are_good.false) (omega arith)
+    c.typed_in.ensures ∙ within _ _ _ c.if-ws-ne4096.false (sym c.are_good.ensures ∙ c.if-not-are_good.false) (omega arith)
