@@ -9,12 +9,6 @@ use Rattle.declarations.specs.Declarations.{size, counted, good_declarations}
 use Rattle.declarations.specs.Code.Entries.{good_entry}
 use Rattle.declarations.proofs.Entries.{counts}
 use Rattle.declarations.proofs.are_good.Goals as goal
-use Rattle.declarations.proofs.are_good.Goals.{Else-not-are_counts}
-
--- behind the second test: the size is right, and so are the counts
-counted-here : (c : Else-not-are_counts) → let ds = c.args.ds.now in
-    (eqb (length ds) size ≡ true) × (counted (get_or ds 0 0) (get_or ds 1 0) (get_or ds 2 0) ≡ true)
-counted-here c = (eq-eqb _ _ c.if-ds-ne-SIZE.false, sym c.are_counts.ensures ∙ c.if-not-are_counts.false)
 
 pub returns-then-ds-ne-SIZE : goal.returns-then-ds-ne-SIZE
 unfolding good_declarations
@@ -25,17 +19,24 @@ unfolding good_declarations
 returns-then-not-are_counts c = rw (eq-eqb _ _ c.if-ds-ne-SIZE.false, sym c.are_counts.ensures ∙ c.if-not-are_counts.true)
 
 pub entries_are_good-requires : goal.entries_are_good-requires
-entries_are_good-requires c = (search rules, search rules, (counts _ _ _ (counted-here c).1).1)
+entries_are_good-requires c =
+    let counted-here : let ds = c.args.ds.now in (eqb (length ds) size ≡ true) × (counted (get_or ds 0 0) (get_or ds 1 0) (get_or ds 2 0) ≡ true) = (eq-eqb _ _ c.if-ds-ne-SIZE.false, sym c.are_counts.ensures ∙ c.if-not-are_counts.false) in
+    (search rules, search rules, (counts _ _ _ counted-here.1).1)
 
 pub returns-then-not-entries_are_good : goal.returns-then-not-entries_are_good
 unfolding good_declarations good_entry
-returns-then-not-entries_are_good c = let t = counted-here c.before.before in rw (t.0, t.1, sym c.entries_are_good.ensures ∙ c.if-not-entries_are_good.true)
+returns-then-not-entries_are_good c =
+    let counted-here : let ds = c.args.ds.now in (eqb (length ds) size ≡ true) × (counted (get_or ds 0 0) (get_or ds 1 0) (get_or ds 2 0) ≡ true) = (eq-eqb _ _ c.if-ds-ne-SIZE.false, sym c.are_counts.ensures ∙ c.if-not-are_counts.false) in
+    let t = counted-here in rw (t.0, t.1, sym c.entries_are_good.ensures ∙ c.if-not-entries_are_good.true)
 
 pub entries_are_good-requires-2 : goal.entries_are_good-requires-2
-entries_are_good-requires-2 c = (search rules, search rules, (counts _ _ _ (counted-here c.before.before).1).2)
+entries_are_good-requires-2 c =
+    let counted-here : let ds = c.args.ds.now in (eqb (length ds) size ≡ true) × (counted (get_or ds 0 0) (get_or ds 1 0) (get_or ds 2 0) ≡ true) = (eq-eqb _ _ c.if-ds-ne-SIZE.false, sym c.are_counts.ensures ∙ c.if-not-are_counts.false) in
+    (search rules, search rules, (counts _ _ _ counted-here.1).2)
 
 pub returns : goal.returns
 unfolding good_declarations good_entry
 returns c =
-    let t = counted-here c.before.before.before in
+    let counted-here : let ds = c.args.ds.now in (eqb (length ds) size ≡ true) × (counted (get_or ds 0 0) (get_or ds 1 0) (get_or ds 2 0) ≡ true) = (eq-eqb _ _ c.if-ds-ne-SIZE.false, sym c.are_counts.ensures ∙ c.if-not-are_counts.false) in
+    let t = counted-here in
     rw (t.0, t.1, sym c.entries_are_good.ensures ∙ c.if-not-entries_are_good.false) c.entries_are_good-2.ensures

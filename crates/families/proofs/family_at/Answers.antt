@@ -9,17 +9,6 @@ use Rattle.families.proofs.Lines.{numbered, Ruled, ruled}
 use Rattle.families.proofs.Theorems.{other_family, no_part, no_second, does_whole}
 use Rattle.families.proofs.Written.{refuses}
 use Rattle.families.proofs.family_at.Goals as goal
-use Rattle.families.proofs.family_at.Goals.{Else-row-le1}
-
--- the part is whole, and the rule is a family's
-whole : (c : Else-row-le1) → Whole c.args.part.now
-whole c = c.requires.0 c.if-part-eq0.false
-
-rule : (c : Else-row-le1) → Ruled c.args.row c.args.rule
-rule c = ruled _ _ c.requires.1 (λ z. omega (arith, z, c.if-row-le1.false))
-
-other : (c : Else-row-le1) → c.args.row.family ≢ 1
-other c = λ z. omega (arith, z, c.if-row-le1.false)
 
 pub returns-then-part-eq0 : goal.returns-then-part-eq0
 returns-then-part-eq0 c = λ Γ. refuses _ (no_part Γ _ _ _ _ c.if-part-eq0.true)
@@ -28,25 +17,42 @@ pub returns-then-row-le1 : goal.returns-then-row-le1
 returns-then-row-le1 c = λ Γ. refuses _ (other_family Γ _ _ _ _ _ c.requires.1 c.if-row-le1.true)
 
 pub collect-requires : goal.collect-requires
-collect-requires c = whole c.before.before.before
+collect-requires c =
+    let whole : Whole c.args.part.now = c.requires.0 c.if-part-eq0.false in
+    whole
 
 pub returns-then-row-eq6 : goal.returns-then-row-eq6
-returns-then-row-eq6 c = λ Γ.
-    let k = rule c.before.before.before.before.before.before in
-    does_whole _ _ c.requires.1 k (other c.before.before.before.before.before.before) (whole c.before.before.before.before.before.before) Γ _ _ _ _ _ _ refl
+returns-then-row-eq6 c =
+    let whole : Whole c.args.part.now = c.requires.0 c.if-part-eq0.false in
+    let rule : Ruled c.args.row c.args.rule = ruled _ _ c.requires.1 (λ z. omega (arith, z, c.if-row-le1.false)) in
+    let other : c.args.row.family ≢ 1 = λ z. omega (arith, z, c.if-row-le1.false) in
+    λ Γ.
+    let k = rule in
+    does_whole _ _ c.requires.1 k other whole Γ _ _ _ _ _ _ refl
     (collects _ _ _ _ _ _ (numbered c.if-row-eq6.true k.lines) c.collect.ensures)
 
 pub returns-then-j-ne0 : goal.returns-then-j-ne0
-returns-then-j-ne0 c = λ Γ.
-    refuses _ (no_second _ _ c.requires.1 (rule c.before.before.before) (other c.before.before.before) (whole c.before.before.before) Γ _ _ c.if-row-eq6.false c.if-j-ne0.true)
+returns-then-j-ne0 c =
+    let whole : Whole c.args.part.now = c.requires.0 c.if-part-eq0.false in
+    let rule : Ruled c.args.row c.args.rule = ruled _ _ c.requires.1 (λ z. omega (arith, z, c.if-row-le1.false)) in
+    let other : c.args.row.family ≢ 1 = λ z. omega (arith, z, c.if-row-le1.false) in
+    λ Γ.
+    refuses _ (no_second _ _ c.requires.1 rule other whole Γ _ _ c.if-row-eq6.false c.if-j-ne0.true)
 
 pub apply_family-requires : goal.apply_family-requires
 apply_family-requires c =
-    let k = rule c.before.before.before.before in
-    (whole c.before.before.before.before, (k.rule, k.lines), other c.before.before.before.before, c.if-row-eq6.false)
+    let whole : Whole c.args.part.now = c.requires.0 c.if-part-eq0.false in
+    let rule : Ruled c.args.row c.args.rule = ruled _ _ c.requires.1 (λ z. omega (arith, z, c.if-row-le1.false)) in
+    let other : c.args.row.family ≢ 1 = λ z. omega (arith, z, c.if-row-le1.false) in
+    let k = rule in
+    (whole, (k.rule, k.lines), other, c.if-row-eq6.false)
 
 pub returns : goal.returns
-returns c = λ Γ.
-    let k = rule c.before.before.before.before.before.before.before in
-    does_whole _ _ c.requires.1 k (other c.before.before.before.before.before.before.before) (whole c.before.before.before.before.before.before.before) Γ _ _ _ _ _ _ c.if-j-ne0.false
+returns c =
+    let whole : Whole c.args.part.now = c.requires.0 c.if-part-eq0.false in
+    let rule : Ruled c.args.row c.args.rule = ruled _ _ c.requires.1 (λ z. omega (arith, z, c.if-row-le1.false)) in
+    let other : c.args.row.family ≢ 1 = λ z. omega (arith, z, c.if-row-le1.false) in
+    λ Γ.
+    let k = rule in
+    does_whole _ _ c.requires.1 k other whole Γ _ _ _ _ _ _ c.if-j-ne0.false
     (c.apply_family.ensures k.rule k.lines)

@@ -7,11 +7,6 @@ use borrow.Author.Tests.{ne_eqb, not-true, not-false}
 use Rattle.typebook.specs.Code.Shapes.{fitting}
 use Rattle.typebook.specs.Code.Lines.{fitted}
 use Rattle.typebook.proofs.are_fit.Goals as goal
-use Rattle.typebook.proofs.are_fit.Goals.{Else-not-fits}
-
--- behind the first test
-first_fits : (c : Else-not-fits) → let a = c.args in fitting a.class (child_of a.head 0) ≡ true
-first_fits c = rw (← c.child_class.ensures) (sym c.fits-then-n-eq2.ensures ∙ not-false c.fits-then-n-eq2.result c.if-not-fits.false)
 
 pub returns-then-not-fits : goal.returns-then-not-fits
 unfolding fitted
@@ -19,13 +14,18 @@ returns-then-not-fits c = rw (← c.child_class.ensures, sym c.fits-then-n-eq2.e
 
 pub returns-then-is_sum : goal.returns-then-is_sum
 unfolding fitted
-returns-then-is_sum c = rw (first_fits c.before.before, ← c.is_sum.ensures, c.if-is_sum.true)
+returns-then-is_sum c =
+    let first_fits : let a = c.args in fitting a.class (child_of a.head 0) ≡ true = rw (← c.child_class.ensures) (sym c.fits-then-n-eq2.ensures ∙ not-false c.fits-then-n-eq2.result c.if-not-fits.false) in
+    rw (first_fits, ← c.is_sum.ensures, c.if-is_sum.true)
 
 pub returns-then-n-eq2 : goal.returns-then-n-eq2
 unfolding fitted
 returns-then-n-eq2 c =
-    rw (first_fits c.before.before.before.before.before, ← c.is_sum.ensures, c.if-is_sum.false, c.if-n-eq2.true, ← c.child_class-then-n-eq2.ensures) c.fits3.ensures
+    let first_fits : let a = c.args in fitting a.class (child_of a.head 0) ≡ true = rw (← c.child_class.ensures) (sym c.fits-then-n-eq2.ensures ∙ not-false c.fits-then-n-eq2.result c.if-not-fits.false) in
+    rw (first_fits, ← c.is_sum.ensures, c.if-is_sum.false, c.if-n-eq2.true, ← c.child_class-then-n-eq2.ensures) c.fits3.ensures
 
 pub returns : goal.returns
 unfolding fitted
-returns c = rw (first_fits c.before.before.before, ← c.is_sum.ensures, c.if-is_sum.false, ne_eqb _ _ c.if-n-eq2.false)
+returns c =
+    let first_fits : let a = c.args in fitting a.class (child_of a.head 0) ≡ true = rw (← c.child_class.ensures) (sym c.fits-then-n-eq2.ensures ∙ not-false c.fits-then-n-eq2.result c.if-not-fits.false) in
+    rw (first_fits, ← c.is_sum.ensures, c.if-is_sum.false, ne_eqb _ _ c.if-n-eq2.false)

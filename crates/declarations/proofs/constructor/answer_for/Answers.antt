@@ -9,12 +9,6 @@ use Rattle.term.specs.Terms.{max_names}
 use Rattle.declarations.specs.declared.constructor.Put.TheVariants.{Done, Full}
 use Rattle.declarations.specs.Put.{room, answer}
 use Rattle.declarations.proofs.constructor.answer_for.Goals as goal
-use Rattle.declarations.proofs.constructor.answer_for.Goals.{Else-not-are_counts}
-
--- behind two tests there is room unless the count is full
-room-here : (c : Else-not-are_counts) → let a = c.args in room a.ds.now a.k ≡ cond (eqb (get_or a.ds.now a.k 0) max_names) Full Done
-unfolding room
-room-here c = rw (eq-eqb _ _ c.if-ds-ne-SIZE.false, sym c.are_counts.ensures ∙ c.if-not-are_counts.false)
 
 pub returns-then-ds-ne-SIZE : goal.returns-then-ds-ne-SIZE
 unfolding answer room
@@ -26,12 +20,21 @@ returns-then-not-are_counts c = rw (eq-eqb _ _ c.if-ds-ne-SIZE.false, sym c.are_
 
 pub returns-then-ds-k-eq32 : goal.returns-then-ds-k-eq32
 unfolding answer
-returns-then-ds-k-eq32 c = rw (room-here c.before.before, eq-eqb _ _ c.if-ds-k-eq32.true)
+unfolding room
+returns-then-ds-k-eq32 c =
+    let room-here : let a = c.args in room a.ds.now a.k ≡ cond (eqb (get_or a.ds.now a.k 0) max_names) Full Done = rw (eq-eqb _ _ c.if-ds-ne-SIZE.false, sym c.are_counts.ensures ∙ c.if-not-are_counts.false) in
+    rw (room-here, eq-eqb _ _ c.if-ds-k-eq32.true)
 
 pub returns-then-fits : goal.returns-then-fits
 unfolding answer
-returns-then-fits c = rw (room-here c.before.before.before, ne_eqb _ _ c.if-ds-k-eq32.false, c.if-fits.true)
+unfolding room
+returns-then-fits c =
+    let room-here : let a = c.args in room a.ds.now a.k ≡ cond (eqb (get_or a.ds.now a.k 0) max_names) Full Done = rw (eq-eqb _ _ c.if-ds-ne-SIZE.false, sym c.are_counts.ensures ∙ c.if-not-are_counts.false) in
+    rw (room-here, ne_eqb _ _ c.if-ds-k-eq32.false, c.if-fits.true)
 
 pub returns : goal.returns
 unfolding answer
-returns c = rw (room-here c.before.before.before, ne_eqb _ _ c.if-ds-k-eq32.false, c.if-fits.false)
+unfolding room
+returns c =
+    let room-here : let a = c.args in room a.ds.now a.k ≡ cond (eqb (get_or a.ds.now a.k 0) max_names) Full Done = rw (eq-eqb _ _ c.if-ds-ne-SIZE.false, sym c.are_counts.ensures ∙ c.if-not-are_counts.false) in
+    rw (room-here, ne_eqb _ _ c.if-ds-k-eq32.false, c.if-fits.false)

@@ -9,22 +9,6 @@ use Rattle.families.proofs.Split.{some_word}
 use Rattle.families.proofs.Written.{refuses, writes, exceeds}
 use Rattle.families.proofs.Merged.{merges_other, Merging, merges-none, merges-child, child-inside, low_bytes, merged_many, merged_few, merged_words}
 use Rattle.families.proofs.chains.merge.Goals as goal
-use Rattle.families.proofs.chains.merge.Goals.{After-child_under-c, Else-not-c}
-
--- the part is a c, and the child is looked for
-merging : (c : After-child_under-c)
-    → let args = c.args in
-    Merging args.ws.now args.i c.child_under-c.result
-merging c =
-    record {
-      whole = c.requires;
-      chained = sym c.is_chain.ensures ∙ c.if-not-is_chain.false;
-      under = c.child_under-c.ensures;
-    }
-
--- it is found
-there : (c : Else-not-c) → c.child_under-c.result.there ≡ true
-there c = c.if-not-c.false
 
 pub bounds-ws-0 : goal.bounds-ws-0
 bounds-ws-0 c = some_word c.requires
@@ -33,35 +17,96 @@ pub returns-then-not-is_chain : goal.returns-then-not-is_chain
 returns-then-not-is_chain c = λ Γ. refuses _ (merges_other Γ _ c.requires (sym c.is_chain.ensures ∙ c.if-not-is_chain.true))
 
 pub returns-then-not-c : goal.returns-then-not-c
-returns-then-not-c c = λ Γ. refuses _ (merges-none (merging c.before.before) Γ c.if-not-c.true)
+returns-then-not-c c =
+    let merging : let args = c.args in Merging args.ws.now args.i c.child_under-c.result = record {
+      whole = c.requires;
+      chained = sym c.is_chain.ensures ∙ c.if-not-is_chain.false;
+      under = c.child_under-c.ensures;
+    } in
+    λ Γ. refuses _ (merges-none merging Γ c.if-not-c.true)
 
 pub offset_bounds-ws-start : goal.offset_bounds-ws-start
-offset_bounds-ws-start c = omega (arith, child-inside (merging c.before.before) (there c))
+offset_bounds-ws-start c =
+    let merging : let args = c.args in Merging args.ws.now args.i c.child_under-c.result = record {
+      whole = c.requires;
+      chained = sym c.is_chain.ensures ∙ c.if-not-is_chain.false;
+      under = c.child_under-c.ensures;
+    } in
+    let there : c.child_under-c.result.there ≡ true = c.if-not-c.false in
+    omega (arith, child-inside merging there)
 
 pub bounds-ws-start : goal.bounds-ws-start
-bounds-ws-start c = omega (arith, child-inside (merging c.before.before.before) (there c.before))
+bounds-ws-start c =
+    let merging : let args = c.args in Merging args.ws.now args.i c.child_under-c.result = record {
+      whole = c.requires;
+      chained = sym c.is_chain.ensures ∙ c.if-not-is_chain.false;
+      under = c.child_under-c.ensures;
+    } in
+    let there : c.child_under-c.result.there ≡ true = c.if-not-c.false in
+    omega (arith, child-inside merging there)
 
 pub returns-then-head-more-gt256 : goal.returns-then-head-more-gt256
-returns-then-head-more-gt256 c = λ Γ.
-    let m = merging c.before.before.before.before in
-    exceeds _ _ (merges-child m (there c.before.before) Γ) (merged_many m (there c.before.before) c.if-head-more-gt256.true)
+returns-then-head-more-gt256 c =
+    let merging : let args = c.args in Merging args.ws.now args.i c.child_under-c.result = record {
+      whole = c.requires;
+      chained = sym c.is_chain.ensures ∙ c.if-not-is_chain.false;
+      under = c.child_under-c.ensures;
+    } in
+    let there : c.child_under-c.result.there ≡ true = c.if-not-c.false in
+    λ Γ.
+    let m = merging in
+    exceeds _ _ (merges-child m there Γ) (merged_many m there c.if-head-more-gt256.true)
 
 pub overflow_sub-head : goal.overflow_sub-head
-overflow_sub-head c = omega (arith, low_bytes (merging c.before.before.before.before.before) (there c.before.before.before))
+overflow_sub-head c =
+    let merging : let args = c.args in Merging args.ws.now args.i c.child_under-c.result = record {
+      whole = c.requires;
+      chained = sym c.is_chain.ensures ∙ c.if-not-is_chain.false;
+      under = c.child_under-c.ensures;
+    } in
+    let there : c.child_under-c.result.there ≡ true = c.if-not-c.false in
+    omega (arith, low_bytes merging there)
 
 pub overflow_add-head-2 : goal.overflow_add-head-2
 overflow_add-head-2 c =
-    let low = low_bytes (merging c.before.before.before.before.before) (there c.before.before.before) in
+    let merging : let args = c.args in Merging args.ws.now args.i c.child_under-c.result = record {
+      whole = c.requires;
+      chained = sym c.is_chain.ensures ∙ c.if-not-is_chain.false;
+      under = c.child_under-c.ensures;
+    } in
+    let there : c.child_under-c.result.there ≡ true = c.if-not-c.false in
+    let low = low_bytes merging there in
     omega (arith, c.if-head-more-gt256.false, c.shared_slice_known-2-1.given 0)
 
 pub overflow_add-start : goal.overflow_add-start
-overflow_add-start c = omega (arith, child-inside (merging c.before.before.before.before.before) (there c.before.before.before))
+overflow_add-start c =
+    let merging : let args = c.args in Merging args.ws.now args.i c.child_under-c.result = record {
+      whole = c.requires;
+      chained = sym c.is_chain.ensures ∙ c.if-not-is_chain.false;
+      under = c.child_under-c.ensures;
+    } in
+    let there : c.child_under-c.result.there ≡ true = c.if-not-c.false in
+    omega (arith, child-inside merging there)
 
 pub append_without-done-requires : goal.append_without-done-requires
-append_without-done-requires c = omega (arith, child-inside (merging c.before.before.before.before.before) (there c.before.before.before))
+append_without-done-requires c =
+    let merging : let args = c.args in Merging args.ws.now args.i c.child_under-c.result = record {
+      whole = c.requires;
+      chained = sym c.is_chain.ensures ∙ c.if-not-is_chain.false;
+      under = c.child_under-c.ensures;
+    } in
+    let there : c.child_under-c.result.there ≡ true = c.if-not-c.false in
+    omega (arith, child-inside merging there)
 
 pub returns : goal.returns
-returns c = λ Γ.
-    let m = merging c.before.before.before.before.before.before.before.before in
-    let t = there c.before.before.before.before.before.before in
+returns c =
+    let merging : let args = c.args in Merging args.ws.now args.i c.child_under-c.result = record {
+      whole = c.requires;
+      chained = sym c.is_chain.ensures ∙ c.if-not-is_chain.false;
+      under = c.child_under-c.ensures;
+    } in
+    let there : c.child_under-c.result.there ≡ true = c.if-not-c.false in
+    λ Γ.
+    let m = merging in
+    let t = there in
     writes _ _ (merges-child m t Γ) (merged_few m t c.if-head-more-gt256.false) (added_as (merged_words m t) c.append_without-done.ensures)

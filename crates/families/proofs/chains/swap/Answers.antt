@@ -8,13 +8,6 @@ use Rattle.families.proofs.Next.{next_child}
 use Rattle.families.proofs.Written.{refuses, writes}
 use Rattle.families.proofs.Swapped.{swaps_other, swaps-outside, swaps_last, swaps_children, swapped_few, swapped_written}
 use Rattle.families.proofs.chains.swap.Goals as goal
-use Rattle.families.proofs.chains.swap.Goals.{Else-not-c}
-
--- the part at the child that was found
-found : (c : Else-not-c)
-    → let args = c.args in
-    Split args.ws.now args.i c.child_at-c.result.start c.child_at-c.result.end
-found c = split c.requires c.child_at-c.ensures c.if-not-c.false
 
 pub bounds-ws-0 : goal.bounds-ws-0
 bounds-ws-0 c = some_word c.requires
@@ -27,11 +20,15 @@ returns-then-not-c c = λ Γ.
     refuses _ (swaps-outside Γ _ c.requires (no_child_lem _ _ c.child_at-c.ensures c.if-not-c.true))
 
 pub returns-then-middle-ws : goal.returns-then-middle-ws
-returns-then-middle-ws c = λ Γ. refuses _ (swaps_last (found c.before) Γ c.if-middle-ws.true)
+returns-then-middle-ws c =
+    let found : let args = c.args in Split args.ws.now args.i c.child_at-c.result.start c.child_at-c.result.end = split c.requires c.child_at-c.ensures c.if-not-c.false in
+    λ Γ. refuses _ (swaps_last found Γ c.if-middle-ws.true)
 
 pub returns : goal.returns
-returns c = λ Γ.
-    let s = found c.before.before.before.before.before.before.before.before.before.before.before.before.before.before.before.before.before.before in
+returns c =
+    let found : let args = c.args in Split args.ws.now args.i c.child_at-c.result.start c.child_at-c.result.end = split c.requires c.child_at-c.ensures c.if-not-c.false in
+    λ Γ.
+    let s = found in
     let n = next_child s c.if-middle-ws.false c.part_end-end.ensures in
     writes _ _ (swaps_children s n Γ (sym c.is_loose.ensures ∙ c.if-not-is_loose.false)) (swapped_few s n)
     (swapped_written s n (appended c.append_run-a.ensures) (appended c.append_run-b.ensures) (appended c.append_run-d.ensures) (appended c.append_run-done.ensures))

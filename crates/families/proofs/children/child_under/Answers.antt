@@ -7,11 +7,6 @@ use lib.ListN.{length}
 use Rattle.families.proofs.Split.{some_word, split, child-bounds}
 use Rattle.families.proofs.Tested.{other_parent, no_such, other_child, both_fit}
 use Rattle.families.proofs.children.child_under.Goals as goal
-use Rattle.families.proofs.children.child_under.Goals.{Else-not-c}
-
--- the child lies in the words
-inside : (c : Else-not-c) → c.child_at-c.result.start < length c.args.ws.now
-inside c = omega (arith, child-bounds (split c.requires c.child_at-c.ensures c.if-not-c.false))
 
 pub bounds-ws-0 : goal.bounds-ws-0
 bounds-ws-0 c = some_word c.requires
@@ -23,10 +18,14 @@ pub returns-then-not-c : goal.returns-then-not-c
 returns-then-not-c c = no_such c.child_at-c.ensures c.if-not-c.true
 
 pub offset_bounds-ws-start : goal.offset_bounds-ws-start
-offset_bounds-ws-start c = omega (arith, inside c)
+offset_bounds-ws-start c =
+    let inside : c.child_at-c.result.start < length c.args.ws.now = omega (arith, child-bounds (split c.requires c.child_at-c.ensures c.if-not-c.false)) in
+    omega (arith, inside)
 
 pub bounds-ws-start : goal.bounds-ws-start
-bounds-ws-start c = inside c.before
+bounds-ws-start c =
+    let inside : c.child_at-c.result.start < length c.args.ws.now = omega (arith, child-bounds (split c.requires c.child_at-c.ensures c.if-not-c.false)) in
+    inside
 
 pub returns-then-ws-start : goal.returns-then-ws-start
 returns-then-ws-start c = other_child c.child_at-c.ensures c.if-ws-start.true

@@ -7,11 +7,6 @@ use lib.Seq.{length-take-le}
 use Rattle.reader.proofs.Named.{first-within, basis_words_put, marked-words-put, variable_words_put}
 use borrow.Author.Rules.{rules}
 use Rattle.reader.proofs.declaring.put_words.Goals as goal
-use Rattle.reader.proofs.declaring.put_words.Goals.{After-first_length-n}
-
--- the first index ends within the words
-split : (c : After-first_length-n) → c.first_length-n.result ≤ length c.args.words.now
-split c = first-within c.args.kind _ c.first_length-n.ensures
 
 pub returns-then-kind-eq9 : goal.returns-then-kind-eq9
 returns-then-kind-eq9 c = let put = c.put_basis.ensures in basis_words_put c.if-kind-eq9.true put.0 put.1
@@ -22,16 +17,24 @@ returns-then-kind-ge4 c =
     marked-words-put _ c.if-kind-eq9.false c.if-kind-ge4.true put.0 put.1
 
 pub slice_bounds-put_variable-end : goal.slice_bounds-put_variable-end
-slice_bounds-put_variable-end c = sym (length-take-le _ _ (split c.before))
+slice_bounds-put_variable-end c =
+    let split : c.first_length-n.result ≤ length c.args.words.now = first-within c.args.kind _ c.first_length-n.ensures in
+    sym (length-take-le _ _ split)
 
 pub offset_bounds-words-n : goal.offset_bounds-words-n
-offset_bounds-words-n c = let h = split c.before in omega arith
+offset_bounds-words-n c =
+    let split : c.first_length-n.result ≤ length c.args.words.now = first-within c.args.kind _ c.first_length-n.ensures in
+    let h = split in omega arith
 
 pub slice_bounds-put_variable-count : goal.slice_bounds-put_variable-count
-slice_bounds-put_variable-count c = let h = split c.before in omega arith
+slice_bounds-put_variable-count c =
+    let split : c.first_length-n.result ≤ length c.args.words.now = first-within c.args.kind _ c.first_length-n.ensures in
+    let h = split in omega arith
 
 pub slice_bounds-put_variable-start : goal.slice_bounds-put_variable-start
-slice_bounds-put_variable-start c = let h = split c.before in omega arith
+slice_bounds-put_variable-start c =
+    let split : c.first_length-n.result ≤ length c.args.words.now = first-within c.args.kind _ c.first_length-n.ensures in
+    let h = split in omega arith
 
 pub returns : goal.returns
 returns c =

@@ -12,14 +12,6 @@ use Rattle.reader.proofs.Behind.{front_read}
 use Rattle.reader.proofs.Named.{wrong-line, name_full, letterless, unworded, long_name, name_line}
 use borrow.Author.Rules.{rules}
 use Rattle.reader.proofs.declaring.take_name.Goals as goal
-use Rattle.reader.proofs.declaring.take_name.Goals.{After-read_words, In-Count-2}
-
-worded : (c : In-Count-2) → (ws : List ℕ) × (Read c ≡ some ws) × (c.in-Count.n ≡ length ws)
-worded c = some_words _ _ (sym c.read_words.ensures.answer ∙ c.in-Count.is)
-
--- the slice that they were read into
-long : (c : After-read_words) → length c.read_words.new.1.1.0 ≡ 126
-long c = c.read_words.ensures.size
 
 pub returns-then-ds-k-eq32 : goal.returns-then-ds-k-eq32
 returns-then-ds-k-eq32 c =
@@ -39,8 +31,9 @@ returns-in_default c =
 
 pub returns-then-n-gt126 : goal.returns-then-n-gt126
 returns-then-n-gt126 c =
+    let worded : (ws : List ℕ) × (Read c ≡ some ws) × (c.in-Count.n ≡ length ws) = some_words _ _ (sym c.read_words.ensures.answer ∙ c.in-Count.is) in
     let pre = c.requires in
-    let w = worded c.before.before.before in
+    let w = worded in
     let z = w.2 in (
       refl,
       λ f s v e. wrong-line c.refused-then-n-gt126.ensures (long_name f s e pre.1 pre.2 _ c.if-ds-k-eq32.false c.named_kind-kind.ensures c.if-kind-eq8.false w.1
@@ -48,12 +41,15 @@ returns-then-n-gt126 c =
     )
 
 pub slice_bounds-put_words-end : goal.slice_bounds-put_words-end
-slice_bounds-put_words-end c = let l = long c.before.before.before.before.before.before.before in sym (length-take-le _ _ (omega arith))
+slice_bounds-put_words-end c =
+    let long : length c.read_words.new.1.1.0 ≡ 126 = c.read_words.ensures.size in
+    let l = long in sym (length-take-le _ _ (omega arith))
 
 pub returns : goal.returns
 returns c =
+    let worded : (ws : List ℕ) × (Read c ≡ some ws) × (c.in-Count.n ≡ length ws) = some_words _ _ (sym c.read_words.ensures.answer ∙ c.in-Count.is) in
     let pre = c.requires in
-    let w = worded c.before.before.before.before.before.before.before.before.before in
+    let w = worded in
     let few : c.in-Count.n ≤ 126 = c.if-n-gt126.false in (
       search rules,
       λ f s v e. name_line f s e pre.1 pre.2 _ c.if-ds-k-eq32.false c.named_kind-kind.ensures c.if-kind-eq8.false w.1

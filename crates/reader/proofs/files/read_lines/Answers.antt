@@ -8,10 +8,6 @@ use Rattle.reader.proofs.Entered.{lines-found}
 use Rattle.reader.proofs.Walked.{Standing, Within, standing-start, in_bounds, line_at, line_refused, line_taken_lem, ends, found-fault}
 use borrow.Author.Rules.{rules}
 use Rattle.reader.proofs.files.read_lines.Goals as goal
-use Rattle.reader.proofs.files.read_lines.Goals.{After-piece_at-span}
-
-within : (c : After-piece_at-span) → Within c.loop-ended.at c.piece_at-span.result c.args.bytes.now
-within c = (line_at c.loop-ended.invariant c.loop-ended-test.true c.piece_at-span.ensures).within
 
 pub returns-then-bad-ne0 : goal.returns-then-bad-ne0
 returns-then-bad-ne0 c = let pre = c.requires in found-fault c.refuse.ensures
@@ -25,13 +21,19 @@ loop-ended-init c =
     (pre.0, pre.1, pre.2, ap length cleared ∙ length-cleared _ _ ∙ pre.3) (cleared ∙ cleared-all _ 8000 pre.3)
 
 pub slice_bounds-take_line-count : goal.slice_bounds-take_line-count
-slice_bounds-take_line-count c = let w = within c in omega arith
+slice_bounds-take_line-count c =
+    let within : Within c.loop-ended.at c.piece_at-span.result c.args.bytes.now = (line_at c.loop-ended.invariant c.loop-ended-test.true c.piece_at-span.ensures).within in
+    let w = within in omega arith
 
 pub slice_bounds-take_line-start : goal.slice_bounds-take_line-start
-slice_bounds-take_line-start c = let w = within c in omega arith
+slice_bounds-take_line-start c =
+    let within : Within c.loop-ended.at c.piece_at-span.result c.args.bytes.now = (line_at c.loop-ended.invariant c.loop-ended-test.true c.piece_at-span.ensures).within in
+    let w = within in omega arith
 
 pub slice_bounds-take_line-end : goal.slice_bounds-take_line-end
-slice_bounds-take_line-end c = let w = within c in omega arith
+slice_bounds-take_line-end c =
+    let within : Within c.loop-ended.at c.piece_at-span.result c.args.bytes.now = (line_at c.loop-ended.invariant c.loop-ended-test.true c.piece_at-span.ensures).within in
+    let w = within in omega arith
 
 pub take_line-taken-requires : goal.take_line-taken-requires
 take_line-taken-requires c = let h = c.loop-ended.invariant in let z = h.sizes in let b = in_bounds h.rest in (z.0, z.1, z.2, b.0, b.1)
@@ -58,14 +60,17 @@ returns-then-fault-ne0 c =
 
 pub overflow_add-line : goal.overflow_add-line
 overflow_add-line c =
-    let w = within c.before.before.before.before.before.before.before.before.before.before.before.before.before.before.before.before.before.before in
+    let within : Within c.loop-ended.at c.piece_at-span.result c.args.bytes.now = (line_at c.loop-ended.invariant c.loop-ended-test.true c.piece_at-span.ensures).within in
+    let w = within in
     let l = c.loop.invariant.counted in
     let good = c in
     let b = good.before.before.bytes-fault.ensures.few good.if1.left in
     omega arith
 
 pub loop-ended-smaller : goal.loop-ended-smaller
-loop-ended-smaller c = let w = within c.before.before.before.before.before.before.before.before.before.before.before.before.before.before.before.before.before.before in omega arith
+loop-ended-smaller c =
+    let within : Within c.loop-ended.at c.piece_at-span.result c.args.bytes.now = (line_at c.loop-ended.invariant c.loop-ended-test.true c.piece_at-span.ensures).within in
+    let w = within in omega arith
 
 pub loop-ended-preserved : goal.loop-ended-preserved
 loop-ended-preserved c =

@@ -121,3 +121,7 @@ returns-in-27 c = search rules
 pub returns-in-28 : goal.returns-in-28
 unfolding line_at
 returns-in-28 c = search rules
+
+pub returns-in_default : goal.returns-in_default
+unfolding Others
+returns-in_default c = sym (line-past _ (others_from 29 c.args.head c.in_default.in_default-own.rest))

@@ -5,6 +5,7 @@ use native.Mathlib.Omega.{arith}
 use borrow.Author.Rules.{rules}
 use Rattle.term.proofs.Levels.{Back, back-begin, back_end, back_below, back_whole, back-unknown}
 use Rattle.term.proofs.parts.level_at.Goals as goal
+use Rattle.term.proofs.parts.level_at.Goals.{then-at-ws, else-at-ws}
 
 pub loop-i-preserved-then-parts-n : goal.loop-i-preserved-then-parts-n
 loop-i-preserved-then-parts-n c =
@@ -23,3 +24,8 @@ loop-i-preserved c =
 
 pub returns : goal.returns
 returns c = back_end _ _ _ _ _ c.loop-i.invariant (omega arith)
+
+pub loop-i-init : goal.loop-i-init
+loop-i-init c =
+    let l = length-take c.args.at c.args.ws.now in
+    back-begin _ _ _ (elim c.if-at-ws.branch [ then-at-ws w ↦ omega arith | else-at-ws w ↦ omega arith ])

@@ -8,11 +8,6 @@ use Rattle.term.specs.Heads.{arity_of}
 use Rattle.term.proofs.Extents.{Walked, walked-begin, walked_end, walked-close, walked-past, walked-unknown, walked_open}
 use Rattle.term.proofs.Rows.{walked_over}
 use Rattle.term.proofs.parts.walk.Goals as goal
-use Rattle.term.proofs.parts.walk.Goals.{Else-words-i}
-
--- a word that is read stands in one of the two slices
-inside : (c : Else-words-i) → let args = c.args in c.loop-left.i < length (args.front.now ++ args.back.now)
-inside c = let args = c.args in omega (arith, c.if-words-i.false, length-append args.front.now args.back.now)
 
 pub loop-left-init : goal.loop-left-init
 loop-left-init c = (refl, walked-begin)
@@ -45,8 +40,10 @@ pub shape_of-outer-in_default : goal.shape_of-outer-in_default
 shape_of-outer-in_default c = c.loop-left.invariant.0
 
 pub returns-in_default : goal.returns-in_default
-returns-in_default c = λ e.
-    let t = walked-unknown c.loop-left.invariant.1 c.if-left-eq0.false (inside c.before.before.before.before.before) (rw c.word_of.ensures at (sym c.arity_of.ensures ∙ c.in_default.is)) in
+returns-in_default c =
+    let inside : let args = c.args in c.loop-left.i < length (args.front.now ++ args.back.now) = let args = c.args in omega (arith, c.if-words-i.false, length-append args.front.now args.back.now) in
+    λ e.
+    let t = walked-unknown c.loop-left.invariant.1 c.if-left-eq0.false inside (rw c.word_of.ensures at (sym c.arity_of.ensures ∙ c.in_default.is)) in
     (c.told-in_default.ensures.1 ∙ t.0, c.told-in_default.ensures.2 ∙ t.1)
 
 pub overflow_add-level : goal.overflow_add-level
@@ -56,12 +53,13 @@ overflow_add-level c =
 
 pub loop-left-preserved-then-leaves_of_both-n : goal.loop-left-preserved-then-leaves_of_both-n
 loop-left-preserved-then-leaves_of_both-n c =
+    let inside : let args = c.args in c.loop-left.i < length (args.front.now ++ args.back.now) = let args = c.args in omega (arith, c.if-words-i.false, length-append args.front.now args.back.now) in
     let loop = c.loop-left in
     let ahead = c.leaves_of_both.ensures in
     let all = c.if-leaves_of_both-n.true in
     let wanted = rw c.word_of.ensures at (sym c.arity_of.ensures ∙ c.in-Children.is) in
     let args = c.args in
-    let w = walked_over loop.invariant.1 c.if-left-eq0.false _ (inside c.before.before.before.before.before.before.before.before.before) (omega (arith, ahead.1, all, length-append args.front.now args.back.now)) wanted (rw all at ahead.2) in
+    let w = walked_over loop.invariant.1 c.if-left-eq0.false _ inside (omega (arith, ahead.1, all, length-append args.front.now args.back.now)) wanted (rw all at ahead.2) in
     (loop.invariant.0, rw (c.larger-deepest.ensures, c.depth_over.ensures.0) w)
 
 pub shape_of-outer-then-outer-level : goal.shape_of-outer-then-outer-level
@@ -72,8 +70,9 @@ returns-then-outer-level c = λ e. absurd (let z : ◌≡◌ {A = ℕ} 0 1 = cc 
 
 pub loop-left-preserved : goal.loop-left-preserved
 loop-left-preserved c =
+    let inside : let args = c.args in c.loop-left.i < length (args.front.now ++ args.back.now) = let args = c.args in omega (arith, c.if-words-i.false, length-append args.front.now args.back.now) in
     let loop = c.loop-left in
     let wanted = rw c.word_of.ensures at (sym c.arity_of.ensures ∙ c.in-Children.is) in (
       length-set loop.outer loop.level (loop.left - 1) ∙ loop.invariant.0,
-      rw c.larger-deepest-else-leaves_of_both-n.ensures (walked_open loop.invariant.1 c.if-left-eq0.false (inside c.before.before.before.before.before.before.before.before.before) _ wanted (omega arith)),
+      rw c.larger-deepest-else-leaves_of_both-n.ensures (walked_open loop.invariant.1 c.if-left-eq0.false inside _ wanted (omega arith)),
     )

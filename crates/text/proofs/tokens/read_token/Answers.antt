@@ -9,14 +9,11 @@ use Rattle.text.proofs.Told.{no_part, a_part}
 use Rattle.text.proofs.Tokened.{end-within, token-paired, token-bare, no_head, half_paired}
 use borrow.Author.Rules.{rules}
 use Rattle.text.proofs.tokens.read_token.Goals as goal
-use Rattle.text.proofs.tokens.read_token.Goals.{After-piece_end-end}
-
--- the head ends within the text
-within : (c : After-piece_end-end) → c.piece_end-end.result ≤ length c.args.text.now
-within c = end-within _ c.piece_end-end.ensures
 
 pub slice_bounds-read_part-end : goal.slice_bounds-read_part-end
-slice_bounds-read_part-end c = sym (length-take-le _ _ (within c))
+slice_bounds-read_part-end c =
+    let within : c.piece_end-end.result ≤ length c.args.text.now = end-within _ c.piece_end-end.ensures in
+    sym (length-take-le _ _ within)
 
 pub returns-in_default : goal.returns-in_default
 unfolding told_token
@@ -29,16 +26,24 @@ returns-then-end-text c =
     ∙ rw (token-bare _ c.piece_end-end.ensures c.if-end-text.true, a_part _ _ (sym c.read_part.ensures ∙ c.in-Byte.is))
 
 pub overflow_add-start : goal.overflow_add-start
-overflow_add-start c = let w = within c.before.before.before.before.before in omega arith
+overflow_add-start c =
+    let within : c.piece_end-end.result ≤ length c.args.text.now = end-within _ c.piece_end-end.ensures in
+    let w = within in omega arith
 
 pub slice_bounds-read_part-count : goal.slice_bounds-read_part-count
-slice_bounds-read_part-count c = let w = within c.before.before.before.before.before in omega arith
+slice_bounds-read_part-count c =
+    let within : c.piece_end-end.result ≤ length c.args.text.now = end-within _ c.piece_end-end.ensures in
+    let w = within in omega arith
 
 pub slice_bounds-read_part-start : goal.slice_bounds-read_part-start
-slice_bounds-read_part-start c = let w = within c.before.before.before.before.before in omega arith
+slice_bounds-read_part-start c =
+    let within : c.piece_end-end.result ≤ length c.args.text.now = end-within _ c.piece_end-end.ensures in
+    let w = within in omega arith
 
 pub slice_bounds-read_part-end-2 : goal.slice_bounds-read_part-end-2
-slice_bounds-read_part-end-2 c = let w = within c.before.before.before.before.before in omega arith
+slice_bounds-read_part-end-2 c =
+    let within : c.piece_end-end.result ≤ length c.args.text.now = end-within _ c.piece_end-end.ensures in
+    let w = within in omega arith
 
 pub returns-in_default-read_part : goal.returns-in_default-read_part
 unfolding told_token

@@ -8,20 +8,19 @@ use Rattle.typing.specs.Code.Shapes.{run}
 use Rattle.typing.proofs.Lying.{laid_same}
 use Rattle.typing.proofs.Binding.{copied_long, copied_more}
 use Rattle.typing.proofs.bodies.copy_up.Goals as goal
-use Rattle.typing.proofs.bodies.copy_up.Goals.{At-loop-i}
-
--- the stack is as long as it was
-long : (c : At-loop-i) → length c.loop-i.stack ≡ length c.args.stack.now
-long c = copied_long _ c.args.from c.args.to c.loop-i.i (omega arith) (omega arith) c.loop-i.invariant.1
 
 pub loop-i-init : goal.loop-i-init
 loop-i-init c = (omega arith, sym (laid_same _ c.args.to 0 0 (omega arith)))
 
 pub bounds-stack-from : goal.bounds-stack-from
-bounds-stack-from c = omega (arith, long c.before.before)
+bounds-stack-from c =
+    let long : length c.loop-i.stack ≡ length c.args.stack.now = copied_long _ c.args.from c.args.to c.loop-i.i (omega arith) (omega arith) c.loop-i.invariant.1 in
+    omega (arith, long)
 
 pub bounds-stack-to : goal.bounds-stack-to
-bounds-stack-to c = omega (arith, long c.before.before)
+bounds-stack-to c =
+    let long : length c.loop-i.stack ≡ length c.args.stack.now = copied_long _ c.args.from c.args.to c.loop-i.i (omega arith) (omega arith) c.loop-i.invariant.1 in
+    omega (arith, long)
 
 pub loop-i-preserved : goal.loop-i-preserved
 loop-i-preserved c =
@@ -29,7 +28,9 @@ loop-i-preserved c =
     (omega arith, copied_more _ c.args.from c.args.to c.loop-i.i (omega arith) (omega arith) (omega arith) (omega arith) c.loop-i.invariant.1)
 
 pub shape_of-stack : goal.shape_of-stack
-shape_of-stack c = long c.before
+shape_of-stack c =
+    let long : length c.loop-i.stack ≡ length c.args.stack.now = copied_long _ c.args.from c.args.to c.loop-i.i (omega arith) (omega arith) c.loop-i.invariant.1 in
+    long
 
 pub returns : goal.returns
 returns c = let z : c.loop-i.i ≡ c.args.n = omega arith in c.loop-i.invariant.1 ∙ rw z

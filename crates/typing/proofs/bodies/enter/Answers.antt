@@ -9,11 +9,6 @@ use Rattle.typing.specs.Code.Chains.{budget_of, record_at, entered, entered_on}
 use Rattle.typing.proofs.Binding.{index_few, two-set}
 use Rattle.typing.proofs.Packing.{one_less, unpacked}
 use Rattle.typing.proofs.bodies.enter.Goals as goal
-use Rattle.typing.proofs.bodies.enter.Goals.{After-bodies_of}
-
--- what is packed is small
-few : (c : After-bodies_of) → (c.budget_of.result ≤ 64) × (c.bodies_of.result < 64)
-few c = let h = c.requires in let e = c.budget_of.ensures in let f = c.bodies_of.ensures in (omega arith, omega arith)
 
 pub enters-requires : goal.enters-requires
 unfolding budget_of
@@ -88,15 +83,21 @@ bodies_of-requires c = search rules
 
 pub overflow_add-result : goal.overflow_add-result
 unfolding budget_of
-overflow_add-result c = let f = few c in search rules
+overflow_add-result c =
+    let few : (c.budget_of.result ≤ 64) × (c.bodies_of.result < 64) = let h = c.requires in let e = c.budget_of.ensures in let f = c.bodies_of.ensures in (omega arith, omega arith) in
+    let f = few in search rules
 
 pub overflow_mul-result : goal.overflow_mul-result
 unfolding budget_of
-overflow_mul-result c = let f = few c in search rules
+overflow_mul-result c =
+    let few : (c.budget_of.result ≤ 64) × (c.bodies_of.result < 64) = let h = c.requires in let e = c.budget_of.ensures in let f = c.bodies_of.ensures in (omega arith, omega arith) in
+    let f = few in search rules
 
 pub overflow_add-result-2 : goal.overflow_add-result-2
 unfolding budget_of
-overflow_add-result-2 c = let f = few c in search rules
+overflow_add-result-2 c =
+    let few : (c.budget_of.result ≤ 64) × (c.bodies_of.result < 64) = let h = c.requires in let e = c.budget_of.ensures in let f = c.bodies_of.ensures in (omega arith, omega arith) in
+    let f = few in search rules
 
 pub overflow_mul-result-2 : goal.overflow_mul-result-2
 unfolding budget_of
@@ -104,7 +105,9 @@ overflow_mul-result-2 c = search rules
 
 pub overflow_add-result-3 : goal.overflow_add-result-3
 unfolding budget_of
-overflow_add-result-3 c = let f = few c in search rules
+overflow_add-result-3 c =
+    let few : (c.budget_of.result ≤ 64) × (c.bodies_of.result < 64) = let h = c.requires in let e = c.budget_of.ensures in let f = c.bodies_of.ensures in (omega arith, omega arith) in
+    let f = few in search rules
 
 pub shape_of-stack : goal.shape_of-stack
 unfolding budget_of
@@ -113,8 +116,9 @@ shape_of-stack c = search rules
 pub returns : goal.returns
 unfolding entered entered_on
 returns c =
+    let few : (c.budget_of.result ≤ 64) × (c.bodies_of.result < 64) = let h = c.requires in let e = c.budget_of.ensures in let f = c.bodies_of.ensures in (omega arith, omega arith) in
     let h = c.requires in
-    let f = few c in
+    let f = few in
     let l = unpacked (c.budget_of.result - 1) (c.bodies_of.result + 1) (record_at c.args.top c.args.first) (omega arith) (omega arith) in
     let yes = sym c.enters.ensures ∙ c.if-not-enters.false in
     record {
