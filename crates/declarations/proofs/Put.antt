@@ -7,8 +7,6 @@ use Prim.Native.Nat.{ℕ, suc, ◌+◌, ◌%◌, ◌≤◌, ◌<◌}
 use native.Mathlib.Numerals.{add-one}
 use native.Mathlib.Omega.{arith}
 use borrow.Author.Tests.{eqb-true, eqb-false}
-use denote.Enum.Declared.{tag_of}
-use types.Run.{OneOf, miss}
 use lib.Dec.{eqb}
 use lib.ListN.{length, drop, get_or, set, drop_of_length-le}
 use lib.Seq.{drop-cons, sets}
@@ -17,7 +15,6 @@ use Rattle.declarations.specs.declared.constructor.Put.{Put}
 use Rattle.declarations.specs.declared.constructor.Put.TheVariants.{Done, WrongSize, Full, Bad}
 use Rattle.declarations.specs.Declarations.{size, basis_at, variable_at, is_index, is_variable}
 use Rattle.declarations.specs.Put.{leaves, room, answer, basis_put, variable_put}
-use Rattle.declarations.specs.contracts.constructor.Put.{the_type}
 use Rattle.declarations.proofs.Entries.{turned, counts, index_tests, variable_tests}
 
 -- ---- a run of stores, one more and none more
@@ -70,9 +67,9 @@ pub put-done : (ds : List ℕ) (k : ℕ) {r : Put} {fits b : Bool} → r ≡ ans
 put-done ds k a f e = let p = answer-done _ _ (sym a ∙ e) in (room-done ds k p.0, sym f ∙ p.1)
 
 -- any other answer leaves the words
-pub not_done : (r : Put) (made ds : List ℕ) → OneOf (1 ∷ 2 ∷ 3 ∷ []) (tag_of the_type r) → ds ≡ leaves r made ds
+pub not_done : (r : Put) (made ds : List ℕ) → (r ≡ Done → ⊥) → ds ≡ leaves r made ds
 unfolding leaves
-not_done Done made ds h = absurd (miss (1 ∷ 2 ∷ 3 ∷ []) 0 tt h)
+not_done Done made ds h = absurd (h refl)
 not_done WrongSize made ds h = refl
 not_done Full made ds h = refl
 not_done Bad made ds h = refl

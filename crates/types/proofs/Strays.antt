@@ -164,9 +164,9 @@ below [] a e = absurd (let z : ◌≡◌ {A = ℕ} 0 1 = cc in omega arith)
 below (y ∷ xs) zero e = omega arith
 below (y ∷ xs) (suc a) e = let h = below xs a e in omega arith
 
-not-stray : {Γ : Context} {u : Tree} {S : Sort} → Γ ⊢ u ∶ S → Stray u (length Γ.bound) → ⊥
-not-stray {Γ} (bound_var {a} b e d) (unbound h) = let l = below Γ.bound a e in omega arith
-not-stray (sum_over a b t n) (ninth h) = omega arith
+not-stray : {Γ : Context} {u : Tree} {S : Sort} → Stray u (length Γ.bound) → Γ ⊢ u ∶ S → ⊥
+not-stray {Γ} (unbound h) (bound_var {a} b e d) = let l = below Γ.bound a e in omega arith
+not-stray (ninth h) (sum_over a b t n) = omega arith
 
 pub typed_no_stray : Statement.TypedNoStray
-typed_no_stray Γ W t S d j u e s = not-stray (part-typed W t j u S d e).1 s
+typed_no_stray Γ W t S d j u e s = not-stray s (part-typed W t j u S d e).1

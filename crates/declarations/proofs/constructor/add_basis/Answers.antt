@@ -13,7 +13,7 @@ pub lay-requires : goal.lay-requires
 lay-requires c = simp length-set (omega arith)
 
 pub shape_of-ds : goal.shape_of-ds
-shape_of-ds c = c.lay.auto.0 ∙ simp length-set
+shape_of-ds c = c.lay.auto.ds ∙ simp length-set
 
 pub returns : goal.returns
 returns c = c.lay.ensures ∙ basis_laid _ _ _ refl

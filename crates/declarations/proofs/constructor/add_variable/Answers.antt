@@ -10,15 +10,15 @@ pub lay-requires : goal.lay-requires
 lay-requires c = simp length-set (omega arith)
 
 pub lay-requires-2 : goal.lay-requires-2
-lay-requires-2 c = omega (arith, simp length-set at c.lay.auto.0)
+lay-requires-2 c = omega (arith, simp length-set at c.lay.auto.ds)
 
 pub lay-requires-3 : goal.lay-requires-3
 lay-requires-3 c =
-    omega (arith, c.lay-2.auto.0, simp length-set at c.lay.auto.0)
+    omega (arith, c.lay-2.auto.ds, simp length-set at c.lay.auto.ds)
 
 pub shape_of-ds : goal.shape_of-ds
 shape_of-ds c =
-    c.lay-3.auto.0 ∙ c.lay-2.auto.0 ∙ c.lay.auto.0 ∙ simp length-set
+    c.lay-3.auto.ds ∙ c.lay-2.auto.ds ∙ c.lay.auto.ds ∙ simp length-set
 
 pub returns : goal.returns
 returns c =

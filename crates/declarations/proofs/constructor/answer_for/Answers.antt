@@ -19,22 +19,19 @@ unfolding answer room
 returns-then-not-are_counts c = rw (eq-eqb _ _ c.if-ds-ne-SIZE.false, sym c.are_counts.ensures ∙ c.if-not-are_counts.true)
 
 pub returns-then-ds-k-eq32 : goal.returns-then-ds-k-eq32
-unfolding answer
-unfolding room
+unfolding answer room
 returns-then-ds-k-eq32 c =
     let room-here : let a = c.args in room a.ds.now a.k ≡ cond (eqb (get_or a.ds.now a.k 0) max_names) Full Done = rw (eq-eqb _ _ c.if-ds-ne-SIZE.false, sym c.are_counts.ensures ∙ c.if-not-are_counts.false) in
     rw (room-here, eq-eqb _ _ c.if-ds-k-eq32.true)
 
 pub returns-then-fits : goal.returns-then-fits
-unfolding answer
-unfolding room
+unfolding answer room
 returns-then-fits c =
     let room-here : let a = c.args in room a.ds.now a.k ≡ cond (eqb (get_or a.ds.now a.k 0) max_names) Full Done = rw (eq-eqb _ _ c.if-ds-ne-SIZE.false, sym c.are_counts.ensures ∙ c.if-not-are_counts.false) in
     rw (room-here, ne_eqb _ _ c.if-ds-k-eq32.false, c.if-fits.true)
 
 pub returns : goal.returns
-unfolding answer
-unfolding room
+unfolding answer room
 returns c =
     let room-here : let a = c.args in room a.ds.now a.k ≡ cond (eqb (get_or a.ds.now a.k 0) max_names) Full Done = rw (eq-eqb _ _ c.if-ds-ne-SIZE.false, sym c.are_counts.ensures ∙ c.if-not-are_counts.false) in
     rw (room-here, ne_eqb _ _ c.if-ds-k-eq32.false, c.if-fits.false)

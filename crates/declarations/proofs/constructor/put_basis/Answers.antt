@@ -15,7 +15,7 @@ add_basis-requires c =
 pub returns-in-Done : goal.returns-in-Done
 unfolding leaves
 returns-in-Done c =
-    (c.answer_for-r.ensures ∙ rw (c.is_index.ensures, c.word_at-types.ensures), rw c.in-Done.is c.add_basis.ensures)
+    record { value = c.answer_for-r.ensures ∙ rw (c.is_index.ensures, c.word_at-types.ensures); ds_after = rw c.in-Done.is c.add_basis.ensures }
 
 pub returns-in_default : goal.returns-in_default
-returns-in_default c = (c.answer_for-r.ensures ∙ rw (c.is_index.ensures, c.word_at-types.ensures), not_done _ _ _ c.in-Done.keys2)
+returns-in_default c = record { value = c.answer_for-r.ensures ∙ rw (c.is_index.ensures, c.word_at-types.ensures); ds_after = not_done _ _ _ c.in_default.not-Done }

@@ -30,7 +30,7 @@ pub overflow_add-next : goal.overflow_add-next
 overflow_add-next c = omega (arith, child-bounds (at-child c))
 
 pub loop-next-init : goal.loop-next-init
-loop-next-init c = passed_none (at-child c) (omega (arith, c.append_word-done.ensures.0, c.append_word-done.auto.0))
+loop-next-init c = passed_none (at-child c) (omega (arith, c.append_word-done.ensures.0, c.append_word-done.auto.out))
 
 pub append_around-done-requires : goal.append_around-done-requires
 append_around-done-requires c =
@@ -45,7 +45,7 @@ loop-next-preserved c =
     passed-more c.loop-next.invariant c.loop-next-test.true c.part_end-behind.ensures c.append_around-done.ensures
 
 pub shape_of-out : goal.shape_of-out
-shape_of-out c = omega (arith, c.loop-next.invariant.written.size, c.append_word-done.auto.0)
+shape_of-out c = omega (arith, c.loop-next.invariant.written.size, c.append_word-done.auto.out)
 
 pub returns : goal.returns
 returns c = λ l s r w i P S R u e Γ.

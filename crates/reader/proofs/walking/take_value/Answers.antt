@@ -25,4 +25,4 @@ returns-in-5 c = (refl, refl, refl, c.take_step.ensures.0, λ f h. arm c.in-5.is
 
 pub returns-in_default : goal.returns-in_default
 unfolding Others
-returns-in_default c = (refl, refl, refl, refl, λ f h fit. arm (last_key _ _ (others_from 6 _ c.in-0.rest) fit) (end_valued _ f _ h c.take_end.ensures) fit)
+returns-in_default c = (refl, refl, refl, refl, λ f h fit. arm (last_key _ _ (others_from 6 _ c.in_default.in_default-own.rest) fit) (end_valued _ f _ h c.take_end.ensures) fit)
