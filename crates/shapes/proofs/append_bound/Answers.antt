@@ -18,4 +18,4 @@ pub returns-then-far : goal.returns-then-far
 returns-then-far c = added_as (far_found _ _ _ c.binder_of-far.ensures c.if-far.true ∙ bound-outside _ _ _ _ c.binder_of-near.ensures c.if-near.false) c.append_part-then-far.ensures
 
 pub returns : goal.returns
-returns c = added_as (far_none _ _ _ c.binder_of-far.ensures c.if-far.false ∙ bound-outside _ _ _ _ c.binder_of-near.ensures c.if-near.false) (appended c.append_run.ensures)
+returns c = added_as (far_none _ _ _ c.binder_of-far.ensures c.if-far.false ∙ bound-outside _ _ _ _ c.binder_of-near.ensures c.if-near.false) (appended (c.append_run.ensures.value, c.append_run.ensures.out_after))

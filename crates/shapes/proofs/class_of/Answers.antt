@@ -11,12 +11,12 @@ loop-left-init c = refl
 
 pub returns-then-head-eq26 : goal.returns-then-head-eq26
 returns-then-head-eq26 c =
-    let turning : let args = c.args in Turning args.ds.now args.ws.now c.loop-left.false c.loop-left.at c.word_at-word.result c.loop-left.turned (class_at args.ds.now args.ws.now args.budget args.from) = record { some = c.loop-left-test.true; word-is = c.word_at-word.ensures; same = c.loop-left.invariant } in
+    let turning : let args = c.args in Turning args.ds.now args.ws.now c.loop-left.left c.loop-left.at c.word_at-word.result c.loop-left.turned (class_at args.ds.now args.ws.now args.budget args.from) = record { some = c.loop-left-test.true; word-is = c.word_at-word.ensures; same = c.loop-left.invariant } in
     class_variable turning c.if-head-eq26.true c.variable_class.ensures c.turn.ensures
 
 pub returns-then-whose-eq0 : goal.returns-then-whose-eq0
 returns-then-whose-eq0 c =
-    let turning : let args = c.args in Turning args.ds.now args.ws.now c.loop-left.false c.loop-left.at c.word_at-word.result c.loop-left.turned (class_at args.ds.now args.ws.now args.budget args.from) = record { some = c.loop-left-test.true; word-is = c.word_at-word.ensures; same = c.loop-left.invariant } in
+    let turning : let args = c.args in Turning args.ds.now args.ws.now c.loop-left.left c.loop-left.at c.word_at-word.result c.loop-left.turned (class_at args.ds.now args.ws.now args.budget args.from) = record { some = c.loop-left-test.true; word-is = c.word_at-word.ensures; same = c.loop-left.invariant } in
     class_head turning c.if-head-eq26.false c.rule_of.ensures
     c.if-whose-eq0.true c.class_by_head.ensures c.turn-then-whose-eq0.ensures
 
@@ -25,7 +25,7 @@ child_at-at-requires c = there c.args.ws.now c.loop-left.at c.word_at-word.ensur
 
 pub loop-left-preserved : goal.loop-left-preserved
 loop-left-preserved c =
-    let turning : let args = c.args in Turning args.ds.now args.ws.now c.loop-left.false c.loop-left.at c.word_at-word.result c.loop-left.turned (class_at args.ds.now args.ws.now args.budget args.from) = record { some = c.loop-left-test.true; word-is = c.word_at-word.ensures; same = c.loop-left.invariant } in
+    let turning : let args = c.args in Turning args.ds.now args.ws.now c.loop-left.left c.loop-left.at c.word_at-word.result c.loop-left.turned (class_at args.ds.now args.ws.now args.budget args.from) = record { some = c.loop-left-test.true; word-is = c.word_at-word.ensures; same = c.loop-left.invariant } in
     class-child turning c.if-head-eq26.false c.rule_of.ensures c.if-whose-eq0.false
     c.child_at-at.ensures
 

@@ -31,4 +31,4 @@ returns c =
     let s = found in
     let n = next_child s c.if-middle-ws.false c.part_end-end.ensures in
     writes _ _ (swaps_children s n Γ (sym c.is_loose.ensures ∙ c.if-not-is_loose.false)) (swapped_few s n)
-    (swapped_written s n (appended c.append_run-a.ensures) (appended c.append_run-b.ensures) (appended c.append_run-d.ensures) (appended c.append_run-done.ensures))
+    (swapped_written s n (appended (c.append_run-a.ensures.value, c.append_run-a.ensures.out_after)) (appended (c.append_run-b.ensures.value, c.append_run-b.ensures.out_after)) (appended (c.append_run-d.ensures.value, c.append_run-d.ensures.out_after)) (appended (c.append_run-done.ensures.value, c.append_run-done.ensures.out_after)))

@@ -16,4 +16,4 @@ pub returns : goal.returns
 returns c =
     let args = c.args in
     others args.ws.now args.head args.first.start args.first.end args.second.start args.second.end
-    (appended c.append_word-a.ensures) (appended c.append_run-b.ensures) (appended c.append_run-c.ensures) (appended c.append_run.ensures)
+    (appended c.append_word-a.ensures) (appended (c.append_run-b.ensures.value, c.append_run-b.ensures.out_after)) (appended (c.append_run-c.ensures.value, c.append_run-c.ensures.out_after)) (appended (c.append_run.ensures.value, c.append_run.ensures.out_after))

@@ -19,4 +19,4 @@ around ws start end from to p q r =
 pub returns : goal.returns
 returns c =
     let args = c.args in
-    around args.ws.now args.start args.end args.from args.to (appended c.append_run-a.ensures) (appended c.append_run-b.ensures) (appended c.append_run.ensures)
+    around args.ws.now args.start args.end args.from args.to (appended (c.append_run-a.ensures.value, c.append_run-a.ensures.out_after)) (appended (c.append_run-b.ensures.value, c.append_run-b.ensures.out_after)) (appended (c.append_run.ensures.value, c.append_run.ensures.out_after))

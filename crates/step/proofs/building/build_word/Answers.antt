@@ -24,7 +24,7 @@ pub returns-then-word-eq255 : goal.returns-then-word-eq255
 returns-then-word-eq255 c =
     let hole : let args = c.args in args.word % 256 < args.t5.held = asked-hole _ _ c.requires.1 (omega arith) in
     λ x o t.
-    added_as (caught_run x _ hole ∙ piece-hole _ x.trees _ (omega arith) c.if-word-eq255.true) (appended c.append_run.ensures)
+    added_as (caught_run x _ hole ∙ piece-hole _ x.trees _ (omega arith) c.if-word-eq255.true) (appended (c.append_run.ensures.value, c.append_run.ensures.out_after))
 
 pub offset_bounds-ws-start : goal.offset_bounds-ws-start
 offset_bounds-ws-start c =

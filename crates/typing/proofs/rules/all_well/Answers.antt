@@ -5,22 +5,22 @@ use Rattle.typing.proofs.rules.all_well.Goals as goal
 
 pub returns-then-not-fit : goal.returns-then-not-fit
 unfolding short_both
-returns-then-not-fit c = rw (not-true c.args.fit c.if-not-fit.true)
+returns-then-not-fit c = rw (c.if-not-fit.true)
 
 pub returns-then-not-met : goal.returns-then-not-met
 unfolding short_both
-returns-then-not-met c = let a = c.args in rw (not-false a.fit c.if-not-fit.false, not-true a.met c.if-not-met.true)
+returns-then-not-met c = let a = c.args in rw (c.if-not-fit.false, c.if-not-met.true)
 
 pub returns-then-n-gt63 : goal.returns-then-n-gt63
 unfolding short_both
 returns-then-n-gt63 c = let a = c.args in
-    rw (not-false a.fit c.if-not-fit.false, not-false a.met c.if-not-met.false, c.if-product.true, lt-leb _ _ c.if-n-gt63.true)
+    rw (c.if-not-fit.false, c.if-not-met.false, c.if-product.true, lt-leb _ _ c.if-n-gt63.true)
 
 pub returns-then-product : goal.returns-then-product
 unfolding short_both
 returns-then-product c = let a = c.args in
-    rw (not-false a.fit c.if-not-fit.false, not-false a.met c.if-not-met.false, c.if-product.true, le-leb _ _ c.if-n-gt63.false)
+    rw (c.if-not-fit.false, c.if-not-met.false, c.if-product.true, le-leb _ _ c.if-n-gt63.false)
 
 pub returns : goal.returns
 unfolding short_both
-returns c = let a = c.args in rw (not-false a.fit c.if-not-fit.false, not-false a.met c.if-not-met.false, c.if-product.false)
+returns c = let a = c.args in rw (c.if-not-fit.false, c.if-not-met.false, c.if-product.false)

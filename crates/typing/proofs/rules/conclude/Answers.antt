@@ -14,15 +14,15 @@ plan-p-requires c = let h = c.requires in (c.rule_of-rule.ensures, search rules)
 pub returns-then-not-p : goal.returns-then-not-p
 returns-then-not-p c =
     let meets-is : let a = c.args in c.meets.result ≡ met (rule_at a.head / 4096) (shape_at a.stack.now a.top a.g.first) (shape_at a.stack.now a.g.at a.g.latest) a.g.alike = rw c.rule_of-rule.ensures at c.meets.ensures in
-    rejects _ _ c.requires meets-is c.plan-p.ensures c.if-not-p.true
+    rejects _ _ c.requires meets-is c.plan-p.ensures (not-true _ c.if-not-p.true)
 
 pub lay-requires : goal.lay-requires
 lay-requires c =
     let meets-is : let a = c.args in c.meets.result ≡ met (rule_at a.head / 4096) (shape_at a.stack.now a.top a.g.first) (shape_at a.stack.now a.g.at a.g.latest) a.g.alike = rw c.rule_of-rule.ensures at c.meets.ensures in
-    laying _ _ c.requires meets-is c.plan-p.ensures c.if-not-p.false
+    laying _ _ c.requires meets-is c.plan-p.ensures (not-false _ c.if-not-p.false)
 
 pub returns : goal.returns
 returns c =
     let meets-is : let a = c.args in c.meets.result ≡ met (rule_at a.head / 4096) (shape_at a.stack.now a.top a.g.first) (shape_at a.stack.now a.g.at a.g.latest) a.g.alike = rw c.rule_of-rule.ensures at c.meets.ensures in
-    concludes _ _ c.requires meets-is c.plan-p.ensures c.if-not-p.false
+    concludes _ _ c.requires meets-is c.plan-p.ensures (not-false _ c.if-not-p.false)
     c.lay.ensures

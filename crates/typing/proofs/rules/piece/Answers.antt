@@ -17,4 +17,4 @@ pub returns-in-4 : goal.returns-in-4
 returns-in-4 c = rw c.in-4.is
 
 pub returns-in_default : goal.returns-in_default
-returns-in_default c = let n = c.in-1.rest in sym (no_piece _ _ _ _ _ _ n.0.0.0.1 n.0.0.1 n.0.1 n.1)
+returns-in_default c = let n = c.in_default.in_default-own.rest in sym (no_piece _ _ _ _ _ _ n.0.0.0.1 n.0.0.1 n.0.1 n.1)
