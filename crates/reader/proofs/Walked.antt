@@ -10,7 +10,7 @@ use lib.Dec.{eqb}
 use lib.ListN.{length, take, drop, replicate, length-append, length-drop, drop_of_length-le}
 use lib.Seq.{take_at, drop-drop, drop-append-add}
 use Rattle.words.specs.Listed.{lacks}
-use Rattle.bytes.specs.Bytes.{index_of}
+use Rattle.text.specs.Bytes.{index_of}
 use Rattle.text.specs.Bytes.{line_feed, bad_line}
 use Rattle.text.specs.Pieces.{Text, lines_of, ended, piece_end}
 use Rattle.text.proofs.Cutting.{all_lack, index_lacks, lines_lack, ended-lines}

@@ -2,15 +2,14 @@
 use mathlib.Core.Path.{◌≡◌, refl, sym, ◌∙◌, ap}
 use mathlib.Core.Bool.{Bool, true, false, cond, not, ◌&&◌, and-eq-true_iff}
 use mathlib.Core.List.{List, [], ◌∷◌, ◌++◌}
-use Prim.Native.Nat.{ℕ, ◌+◌, ◌≤◌, ◌<◌}
+use Prim.Native.Nat.{ℕ, suc, ◌+◌, ◌≤◌, ◌<◌}
 use native.Mathlib.Omega.{arith}
 use lib.Dec.{eqb}
 use lib.ListN.{length, take, drop, length-append}
 use lib.Seq.{take-append_seam, drop-append-add}
 use borrow.Author.Tests.{eqb-true, eqb-false, eq-eqb, ne_eqb, not-true}
-use Rattle.bytes.specs.Bytes.{index_of, index_after}
 use Rattle.words.specs.Listed.{lacks, all}
-use Rattle.text.specs.Bytes.{line_feed, printable, bad_line}
+use Rattle.text.specs.Bytes.{line_feed, printable, bad_line, index_of}
 use Rattle.text.specs.Pieces.{Text, push, pieces, parted, lines_of, ended}
 use Rattle.text.specs.Numbers.{is_digit, all_digits}
 
@@ -44,8 +43,8 @@ pub data First (b : ℕ) : Text → ℕ → Type 0 where
   nowhere : (p : Text) → lacks b p ≡ true → First b p (length p)
   found : (p r : Text) → lacks b p ≡ true → First b (p ++ b ∷ r) (length p)
 
-first_more : {b x k : ℕ} {s : Text} (t : Bool) → eqb x b ≡ t → First b s k → First b (x ∷ s) (index_after t k)
-unfolding lacks index_after
+first_more : {b x k : ℕ} {s : Text} (t : Bool) → eqb x b ≡ t → First b s k → First b (x ∷ s) (cond t 0 (suc k))
+unfolding lacks
 first_more {b} {x} {k} {s} true e f = rw (eqb-true x b e) (found [] s refl)
 first_more {b} {x} false e (nowhere p h) = nowhere (x ∷ p) (rw (e, h))
 first_more {b} {x} false e (found p r h) = found (x ∷ p) r (rw (e, h))
@@ -181,7 +180,7 @@ ended-lines n f [] h p = refl
 ended-lines n f (x ∷ xs) h p =
     let m = bad_more n f x xs h p in
     let q = rises (eqb x line_feed) in
-    ended-more x _ xs (eqb x line_feed) refl m q (ended-lines _ _ xs m q)
+    ended-more x _ xs (eqb x line_feed) refl m q (ended-lines (cond (eqb x line_feed) (n + 1) n) (eqb x line_feed) xs m q)
   where
     rises : (t : Bool) → 0 < cond t (n + 1) n
     rises true = omega arith

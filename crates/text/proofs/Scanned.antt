@@ -10,11 +10,10 @@ use native.Mathlib.Omega.{arith}
 use borrow.Author.Tests.{eq-eqb, ne_eqb}
 use lib.Dec.{eqb}
 use lib.ListN.{length, drop, get_or, drop_of_length-le}
-use lib.Seq.{drop-cons, take_all}
+use lib.Seq.{drop-cons}
 use Rattle.words.specs.Listed.{all}
-use Rattle.bytes.specs.Bytes.{index_of, slice}
 use Rattle.text.specs.declared.numbers.Number.TheVariants.{Value, Malformed}
-use Rattle.text.specs.Bytes.{line_feed, printable, fine, all_fine, bad_line}
+use Rattle.text.specs.Bytes.{line_feed, printable, fine, all_fine, bad_line, index_of}
 use Rattle.text.specs.Pieces.{piece_end, starts}
 use Rattle.text.specs.Numbers.{all_digits, value_from, well_begun, is_number, number_in, told, most}
 
@@ -80,14 +79,19 @@ none-bad [] h l f = absurd (omega arith)
 none-bad (b ∷ s) h l f = let z : suc (length s) - 1 ≡ length s = omega arith in fine-zero (b ∷ s) 1 false f (last_feed_lem false b s (rw z at l))
 
 -- ---- the end of a piece, and keys
-module _ (s : List ℕ) (at b : ℕ) where
-  pub end-past : length s < at → at ≡ piece_end s at b
+module _ (s : List ℕ) (i b : ℕ) where
+  -- a piece from behind the last byte on ends where it begins
+  pub end-past : length s ≤ i → i ≡ piece_end s i b
   unfolding piece_end index_of
-  end-past h = let z : length s ≤ at = omega arith in rw (drop_of_length-le s z) (omega arith)
+  end-past h = rw (drop_of_length-le s h) (omega arith)
 
-  pub end-found : at + index_of b (slice at (length s) s) ≡ piece_end s at b
-  unfolding piece_end slice
-  end-found = rw (take_all (length s) s (omega arith))
+  pub end-found : i < length s → get_or s i 0 ≡ b → i ≡ piece_end s i b
+  unfolding piece_end index_of
+  end-found h e = rw (drop-cons s i 0 h, eq-eqb _ _ e) (omega arith)
+
+  pub end_more : i < length s → get_or s i 0 ≢ b → piece_end s i b ≡ piece_end s (i + 1) b
+  unfolding piece_end index_of
+  end_more h e = rw (drop-cons s i 0 h, ne_eqb _ _ e, add-one i) (omega arith)
 
 module _ (key s : List ℕ) (i : ℕ) where
   pub starts_more : i < length key → i < length s → get_or s i 0 ≡ get_or key i 0 → starts (drop i key) (drop i s) ≡ starts (drop (i + 1) key) (drop (i + 1) s)

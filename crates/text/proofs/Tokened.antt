@@ -11,7 +11,7 @@ use lib.Dec.{eqb, ltb}
 use lib.ListN.{length, take, drop, set, length-drop}
 use lib.Seq.{take_all, drop-drop}
 use Rattle.words.proofs.Runs.{to_end}
-use Rattle.bytes.specs.Bytes.{index_of}
+use Rattle.text.specs.Bytes.{index_of}
 use Rattle.term.specs.declared.heads.Arity.TheVariants.{Unknown, Children}
 use Rattle.term.specs.Heads.{Reading, unread, labelled, read, arity_in, arity_of}
 use Rattle.text.specs.declared.tokens.Tokens.{Tokens}

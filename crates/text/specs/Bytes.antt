@@ -1,5 +1,5 @@
 -- The bytes of a file. Document 01, code 3: "a byte other than LF and 32 to 126, or no LF as last byte (an empty file too)".
-use Rattle.std.specs.Prelude.{Bool, true, false, cond, ◌&&◌, ◌||◌, List, [], ◌∷◌, ℕ, ◌+◌, eqb, leb}
+use Rattle.std.specs.Prelude.{Bool, true, false, cond, ◌&&◌, ◌||◌, List, [], ◌∷◌, ℕ, suc, ◌+◌, eqb, leb}
 use Rattle.words.specs.Listed.{all}
 
 abbrev pub line_feed : ℕ
@@ -22,3 +22,8 @@ unfoldable pub bad_line : ℕ → Bool → List ℕ → ℕ
 unfolding printable
 bad_line n ended [] = cond ended 0 n
 bad_line n ended (b ∷ bs) = cond (eqb b line_feed) (bad_line (n + 1) true bs) (cond (printable b) (bad_line n false bs) n)
+
+-- how many bytes stand before the first byte b, or all where there is none
+unfoldable pub index_of : ℕ → List ℕ → ℕ
+index_of b [] = 0
+index_of b (x ∷ xs) = cond (eqb x b) 0 (suc (index_of b xs))

@@ -1,7 +1,6 @@
 -- Text cut at a separator: lines, the fields of a line, the two numbers of a token.
 use Rattle.std.specs.Prelude.{Bool, true, false, cond, ◌&&◌, List, [], ◌∷◌, ◌++◌, ℕ, ◌+◌, eqb, leb, length, drop}
-use Rattle.bytes.specs.Bytes.{index_of}
-use Rattle.text.specs.Bytes.{line_feed}
+use Rattle.text.specs.Bytes.{line_feed, index_of}
 
 abbrev pub space : ℕ
 space = 32

@@ -2,8 +2,8 @@
 -- Document 01, "The file": "Tokens of heads 1, 3, 7, 8, 20, 26 are h:a, of the other known heads h; unknown heads come either way"; 02, CR 1: "In the file 27 stands bare, 28 with its
 -- number".
 use Rattle.std.specs.Prelude.{Bool, true, false, cond, ◌||◌, not, List, [], ◌∷◌, ◌++◌, ℕ, ◌+◌, ◌*◌, ◌/◌, ◌%◌, ltb, length, take, drop, set}
-use Rattle.std.proofs.Math.Option.{Option, some, none, Option·elim}
-use Rattle.bytes.specs.Bytes.{index_of}
+use Rattle.std.proofs.Math.Option.{Option, some, none, Option-elim}
+use Rattle.text.specs.Bytes.{index_of}
 use Rattle.term.specs.Heads.{Reading, unread, labelled, read}
 use Rattle.text.specs.declared.tokens.Part.{Part}
 use Rattle.text.specs.declared.tokens.Part.TheVariants as P
@@ -92,6 +92,6 @@ told_tokens (some ws) = C.Count (length ws)
 
 -- a slice behind so many tokens, one word each from the k-th place on, up to the first that is malformed; words behind the slice's end are dropped
 unfoldable pub stored : List Text → List ℕ → ℕ → List ℕ
-unfolding token_in Option·elim
+unfolding token_in Option-elim
 stored [] out k = out
-stored (p ∷ ps) out k = Option·elim (token_in p) out λ w. stored ps (set out k w) (k + 1)
+stored (p ∷ ps) out k = Option-elim (token_in p) out λ w. stored ps (set out k w) (k + 1)

@@ -3,7 +3,6 @@ ghost use Rattle.std.specs.Prelude.{◌≡◌, false, ◌&&◌};
 ghost use Rattle.text.specs.Bytes.{printable, fine, all_fine, bad_line};
 ghost use Rattle.text.specs.Pieces.{piece_end, starts};
 
-
 fn is_printable(byte: u8) -> bool
     ensures { result ≡ printable byte }
 {

@@ -1,6 +1,5 @@
 -- By how many bytes there are.
 use Rattle.text.proofs.Scanned.{begun_none, begun_one, begun_more}
-use borrow.Author.Rules.{rules}
 use Rattle.text.proofs.numbers.is_well_begun.Goals as goal
 
 pub returns-then-text-eq0 : goal.returns-then-text-eq0

@@ -1,13 +1,9 @@
-use mathlib.Core.Path.{◌≡◌, refl, sym, ◌∙◌}
-use Prim.Native.Nat.{ℕ, ◌-◌, min}
+use mathlib.Core.Path.{refl, sym, ◌∙◌}
 use native.Mathlib.Omega.{arith}
-use borrow.Author.Tests.{not-true, not-false}
-use lib.ListN.{length, drop}
 use Rattle.words.proofs.Listed.{all_more, all-fails, all_end}
-use Rattle.text.specs.Numbers.{is_digit, all_digits, value_from, most}
+use Rattle.text.specs.Numbers.{is_digit}
 use Rattle.text.proofs.Decimals.{digit-is}
 use Rattle.text.proofs.Scanned.{number_unbegun, number_undigited, number_value, value_more, value_end, cut_grown}
-use borrow.Author.Rules.{rules}
 use Rattle.text.proofs.numbers.read_number.Goals as goal
 
 pub returns-then-not-is_well_begun : goal.returns-then-not-is_well_begun
@@ -19,7 +15,7 @@ loop-i-init c = (refl, (0, refl, refl))
 pub returns-then-not-is_digit : goal.returns-then-not-is_digit
 returns-then-not-is_digit c =
     let loop = c.loop-i in
-    number_undigited _ (sym (all-fails is_digit _ loop.i loop.invariant.0 (omega arith) c.is_digit.ensures c.if-not-is_digit.true))
+    number_undigited _ (sym (all-fails is_digit _ loop.i loop.invariant.0 (omega arith) c.is_digit.ensures (rw c.if-not-is_digit.true)))
 
 pub grown-value-requires : goal.grown-value-requires
 grown-value-requires c =
@@ -31,7 +27,7 @@ pub loop-i-preserved : goal.loop-i-preserved
 loop-i-preserved c =
     let inv = c.loop-i.invariant in
     let i = c.loop-i.i in (
-      all_more is_digit _ i inv.0 (omega arith) c.is_digit.ensures c.if-not-is_digit.false,
+      all_more is_digit _ i inv.0 (omega arith) c.is_digit.ensures (rw c.if-not-is_digit.false),
       (_, c.grown-value.ensures ∙ cut_grown _ _ _ inv.1.1, inv.1.2 ∙ value_more _ i _ (omega arith)),
     )
 

@@ -1,12 +1,9 @@
 -- The invariant: all bytes are fine where those before `i` are, and those from `i` on.
-use mathlib.Core.Path.{◌≡◌, refl, sym, ◌∙◌}
+use mathlib.Core.Path.{◌≡◌}
 use mathlib.Core.Bool.{◌&&◌}
 use Prim.Native.Nat.{◌-◌, ◌≤◌}
-use native.Mathlib.Omega.{arith}
-use borrow.Author.Rules.{rules}
 use lib.ListN.{drop}
 use Rattle.text.specs.Bytes.{all_fine}
-use Rattle.text.proofs.Scanned.{fine_more, fine_end}
 use Rattle.text.proofs.pieces.are_fine.Given as goal
 
 abbrev pub invariant-loop-i : goal.invariant-loop-i

@@ -1,6 +1,5 @@
 -- No line is asked for where all bytes are fine and the last is a LF.
 use mathlib.Core.Path.{sym, ◌∙◌}
-use borrow.Author.Rules.{rules}
 use Rattle.text.proofs.Scanned.{none-bad}
 use Rattle.text.proofs.pieces.bad_line.Goals as goal
 

@@ -1,14 +1,9 @@
 -- The invariant: the fault that is asked for is the first from `i` on, where line `line` goes on, or begins straight behind a LF.
-use mathlib.Core.Path.{◌≡◌, refl, sym, ◌∙◌}
+use mathlib.Core.Path.{◌≡◌}
 use Prim.Native.Nat.{◌-◌, ◌+◌, ◌≤◌}
-use native.Mathlib.Omega.{arith}
 use mathlib.Core.Bool.{false}
-use mathlib.Core.Logic.{⊎_elim}
-use borrow.Author.Tests.{not-true, not-false}
 use lib.ListN.{length, drop}
 use Rattle.text.specs.Bytes.{bad_line}
-use Rattle.text.proofs.Scanned.{bad_feed, bad-fine, bad-found, bad-end}
-use borrow.Author.Rules.{rules}
 use Rattle.text.proofs.pieces.first_bad_line.Given as goal
 
 abbrev pub invariant-loop-i : goal.invariant-loop-i

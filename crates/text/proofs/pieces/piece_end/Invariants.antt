@@ -1,8 +1,12 @@
--- Behind the end of the text there is nothing to find.
-use mathlib.Core.Path.{◌∙◌}
-use borrow.Author.Rules.{rules}
-use Rattle.text.proofs.Scanned.{end-past, end-found}
+-- The invariant: from `i` on the piece has the same end.
+use mathlib.Core.Path.{◌≡◌}
+use Prim.Native.Nat.{◌-◌}
+use lib.ListN.{length}
+use Rattle.text.specs.Pieces.{piece_end}
 use Rattle.text.proofs.pieces.piece_end.Given as goal
 
 abbrev pub invariant-loop-i : goal.invariant-loop-i
-invariant-loop-i l = end-past _ _ _ l.text.if1.true
+invariant-loop-i l = piece_end l.text l.at l.b ≡ piece_end l.text l.i l.b
+
+abbrev pub decreases-loop-i : goal.decreases-loop-i
+decreases-loop-i l = length l.text - l.i

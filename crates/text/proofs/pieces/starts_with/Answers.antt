@@ -1,10 +1,6 @@
-use mathlib.Core.Path.{◌≡◌, refl, sym, ◌∙◌}
-use Prim.Native.Nat.{◌-◌}
+use mathlib.Core.Path.{refl, sym, ◌∙◌}
 use native.Mathlib.Omega.{arith}
-use lib.ListN.{length, drop}
-use Rattle.text.specs.Pieces.{starts}
 use Rattle.text.proofs.Scanned.{starts_more, starts-fails, starts-end, starts-short}
-use borrow.Author.Rules.{rules}
 use Rattle.text.proofs.pieces.starts_with.Goals as goal
 
 pub returns-then-text-key : goal.returns-then-text-key

@@ -1,11 +1,8 @@
 -- The invariant: the rest of the text is to begin with the rest of the key.
-use mathlib.Core.Path.{◌≡◌, refl, sym, ◌∙◌}
+use mathlib.Core.Path.{◌≡◌}
 use Prim.Native.Nat.{◌-◌}
-use native.Mathlib.Omega.{arith}
 use lib.ListN.{length, drop}
 use Rattle.text.specs.Pieces.{starts}
-use Rattle.text.proofs.Scanned.{starts_more, starts-fails, starts-end, starts-short}
-use borrow.Author.Rules.{rules}
 use Rattle.text.proofs.pieces.starts_with.Given as goal
 
 abbrev pub invariant-loop-i : goal.invariant-loop-i

@@ -1,6 +1,5 @@
 -- A LF, a printable byte, or a bad one.
 use mathlib.Core.Path.{sym, ◌∙◌}
-use borrow.Author.Rules.{rules}
 use borrow.Author.Tests.{eq-eqb, ne_eqb}
 use Rattle.text.specs.Bytes.{fine}
 use Rattle.text.proofs.pieces.still_fine.Goals as goal

@@ -1,7 +1,6 @@
 -- A head that is known with a part must have one.
 use Rattle.text.specs.Tokens.{told_token}
 use Rattle.text.proofs.Tokened.{found-known, bare_carrying, bare_other}
-use borrow.Author.Rules.{rules}
 use Rattle.text.proofs.tokens.bare_token.Goals as goal
 
 pub returns-then-is_known : goal.returns-then-is_known

@@ -2,11 +2,8 @@
 use mathlib.Core.Path.{sym, ◌∙◌}
 use Rattle.text.proofs.Tokened.{known_some, known-none}
 use mathlib.Core.Path.{◌∙◌, sym}
-use borrow.Author.Rules.{rules}
 use Rattle.text.proofs.Tokened.{known_some, known-none}
 use Rattle.text.proofs.tokens.is_known.Goals as goal
-
--- A word is known where it wants a number of children.
 
 pub returns-in-Children : goal.returns-in-Children
 returns-in-Children c = known_some _ _ (sym c.arity_of.ensures ∙ c.in-Children.is)

@@ -1,7 +1,6 @@
 -- A head that is known with a part, or a word that is not known.
 use Rattle.text.specs.Tokens.{told_token}
 use Rattle.text.proofs.Tokened.{found-known, pair_carrying, pair-known, pair-unknown}
-use borrow.Author.Rules.{rules}
 use Rattle.text.proofs.tokens.paired_token.Goals as goal
 
 pub returns-then-is_known : goal.returns-then-is_known

@@ -3,7 +3,6 @@ use mathlib.Core.Path.{sym, ◌∙◌}
 use native.Mathlib.Omega.{arith}
 use Rattle.text.specs.Tokens.{told_part}
 use Rattle.text.proofs.Told.{none-limited, over_limit, in_limit}
-use borrow.Author.Rules.{rules}
 use Rattle.text.proofs.tokens.read_part.Goals as goal
 
 pub returns-in_default : goal.returns-in_default

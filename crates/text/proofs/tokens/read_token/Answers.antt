@@ -7,7 +7,6 @@ use lib.ListN.{length}
 use lib.Seq.{length-take-le}
 use Rattle.text.proofs.Told.{no_part, a_part}
 use Rattle.text.proofs.Tokened.{end-within, token-paired, token-bare, no_head, half_paired}
-use borrow.Author.Rules.{rules}
 use Rattle.text.proofs.tokens.read_token.Goals as goal
 
 pub slice_bounds-read_part-end : goal.slice_bounds-read_part-end

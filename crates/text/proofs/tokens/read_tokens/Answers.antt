@@ -1,15 +1,12 @@
-use mathlib.Core.Path.{◌≡◌, refl, sym, ◌∙◌}
-use Prim.Native.Nat.{◌-◌, ◌+◌, ◌≤◌}
+use mathlib.Core.Path.{refl, sym, ◌∙◌}
 use native.Mathlib.Omega.{arith}
-use mathlib.Core.Logic.{⊎_elim}
-use lib.ListN.{length, length-set}
+use lib.ListN.{length-set}
 use lib.Seq.{set_out}
-use Rattle.text.specs.Pieces.{space, parted, fields_from}
-use Rattle.text.specs.Tokens.{tokens_in, told_tokens, words_of, stored}
+use Rattle.text.specs.Tokens.{tokens_in}
 use Rattle.text.proofs.Told.{no_token, a_token}
-use Rattle.text.proofs.Tokened.{piece-within, fields_all, fields_more, fields_end, counted, counted-all, counted-more, counted_none, counted-end, stored_more, stored-none, stored-end}
-use borrow.Author.Rules.{rules}
+use Rattle.text.proofs.Tokened.{piece-within, fields_all, fields_more, fields_end, counted-all, counted-more, counted_none, counted-end, stored_more, stored-none, stored-end}
 use Rattle.text.proofs.tokens.read_tokens.Goals as goal
+use Rattle.text.proofs.tokens.read_tokens.Goals.{then-n-out, else-n-out}
 
 pub loop-at-init : goal.loop-at-init
 unfolding tokens_in
@@ -45,10 +42,10 @@ loop-at-preserved c =
     let word = a_token _ _ (sym c.read_token.ensures ∙ c.in-Word.is) in
     let told = (rw f at inv.3) ∙ counted-more _ _ _ word in
     let left = (rw f at inv.4) ∙ stored_more _ _ _ _ word in
-    ⊎_elim
-    (λ w. (omega arith, omega arith, rw w.1 (simp length-set inv.2), told, left ∙ rw w.1))
-    (λ w. (omega arith, omega arith, rw w.1 inv.2, told, left ∙ rw (w.1, set_out _ _ _ w.0.left)))
-    c.if-n-out.branch
+    elim c.if-n-out.branch [
+      | then-n-out w ↦ (omega arith, omega arith, rw w.out-is (simp length-set inv.2), told, left ∙ rw w.out-is)
+      | else-n-out w ↦ (omega arith, omega arith, rw w.out-is inv.2, told, left ∙ rw (w.out-is, set_out _ _ _ w.if-n-out.false))
+    ]
 
 pub returns : goal.returns
 returns c =

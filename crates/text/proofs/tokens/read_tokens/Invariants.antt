@@ -1,15 +1,10 @@
 -- The invariant: what is left of the whole row is the row from `at` on.
-use mathlib.Core.Path.{◌≡◌, refl, sym, ◌∙◌}
+use mathlib.Core.Path.{◌≡◌}
 use Prim.Native.Nat.{◌-◌, ◌+◌, ◌≤◌}
-use native.Mathlib.Omega.{arith}
-use mathlib.Core.Logic.{⊎_elim}
-use lib.ListN.{length, length-set}
-use lib.Seq.{set_out}
+use lib.ListN.{length}
 use Rattle.text.specs.Pieces.{space, parted, fields_from}
 use Rattle.text.specs.Tokens.{tokens_in, told_tokens, words_of, stored}
-use Rattle.text.proofs.Told.{no_token, a_token}
-use Rattle.text.proofs.Tokened.{piece-within, fields_all, fields_more, fields_end, counted, counted-all, counted-more, counted_none, counted-end, stored_more, stored-none, stored-end}
-use borrow.Author.Rules.{rules}
+use Rattle.text.proofs.Tokened.{counted}
 use Rattle.text.proofs.tokens.read_tokens.Given as goal
 
 abbrev pub invariant-loop-at : goal.invariant-loop-at
