@@ -1,4 +1,2 @@
--- The laws of a span; and the steps that the walks over a reader share.
+-- The laws of a span.
 pub mod Spans
-mod Held
-mod Answered

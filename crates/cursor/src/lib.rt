@@ -1,6 +1,7 @@
 // The reader holds the file's bytes and its own place. Each function over it takes it apart and leaves the work to a function on a slice and a number; `piece_at` serves
 // every caller that has those.
 #![tactic(auto)]
+
 ghost use Rattle.std.specs.Prelude.{◌≡◌};
 ghost use Rattle.cursor.specs.Reading.{past, at_end, next_of, span_at};
 

@@ -1,5 +1,4 @@
 -- A place behind the text stays.
-use borrow.Author.Rules.{rules}
 use borrow.Author.Tests.{le-leb, lt-leb}
 use Rattle.cursor.specs.Reading.{past}
 use Rattle.cursor.proofs.past_end.Goals as goal
