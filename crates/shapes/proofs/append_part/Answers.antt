@@ -5,4 +5,4 @@ use Rattle.shapes.proofs.Steps.{part-run}
 use Rattle.shapes.proofs.append_part.Goals as goal
 
 pub returns : goal.returns
-returns c = added_as (part-run _ _ c.part_end.ensures) (appended (c.append_run.ensures.value, c.append_run.ensures.out_after)
+returns c = added_as (part-run _ _ c.part_end.ensures) (appended (c.append_run.ensures.value, c.append_run.ensures.out_after))

@@ -5,6 +5,7 @@ use lib.ListN.{length-set}
 use Rattle.typing.proofs.Concluding.{put-plain, put-product}
 use borrow.Author.Rules.{rules}
 use Rattle.typing.proofs.rules.put_side.Goals as goal
+use Rattle.typing.proofs.rules.put_side.Goals.{«then-product+else-p-ne0», else-product}
 
 pub shape_of-made-then-p-ne0 : goal.shape_of-made-then-p-ne0
 shape_of-made-then-p-ne0 c = c.put_run.ensures.size ∙ c.put_run-end.ensures.size ∙ simp length-set
@@ -16,4 +17,4 @@ returns-then-p-ne0 c = let args = c.args in
 
 pub returns : goal.returns
 returns c = let args = c.args in
-    put-plain args.stack.now args.p args.q (⊎_elim (λ w. inr w.2.left) (λ w. inl w.left) c.if-product.branch) c.put_run-2.ensures
+    put-plain args.stack.now args.p args.q (elim c.if-product.branch [ «then-product+else-p-ne0» w ↦ inr w.if-p-ne0.false | else-product w ↦ inl w.if-product.false ]) c.put_run-2.ensures
