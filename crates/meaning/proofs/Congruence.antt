@@ -68,10 +68,10 @@ module _ {R : Type 0} (𝓐 : Arithmetic R) {Γ : Context} (W : WellFormed Γ) w
         → plus 𝓐 A (stands* 𝓐 Γ χ f) ≈ plus 𝓐 B (stands* 𝓐 Γ χ g)
     unfolding plus meaning stands
     sum_alike χ F s p every_none no_more = p
-    sum_alike χ F s p (every_more {f} d ds) (one_more_lem x xs) =
+    sum_alike {A = A} {B = B} χ F s p (every_more {t = t} {f = f} d ds) (one_more_lem {u = u} {g = g} x xs) =
         let a = shaped χ _ (shape 𝓐 W F d) in
         let b = plus-shape 𝓐 (stands* 𝓐 Γ χ f) a in
-        add-≈ 𝓐 (same_rows s b) (same-columns s b) p (sum_alike χ F a (alike _ _ ((x S d).1 χ F)) ds xs)
+        add-≈ 𝓐 (same_rows s b) (same-columns s b) p (sum_alike {A = (stands 𝓐 Γ χ t).matrix} {B = (stands 𝓐 Γ χ u).matrix} χ F a (alike _ _ ((x S d).1 χ F)) ds xs)
 
     sum_of : {A : Type 0} {t u : Tree} {f g : Forest} → Served t u → Served* f g → Γ ⊢ t ∶ S → Γ ⊢* f ∶ S → (Γ ⊢ u ∶ S → Γ ⊢* g ∶ S → A)
         → A × ((χ : Choice R) → Fits 𝓐 Γ χ → plus 𝓐 (stands 𝓐 Γ χ t).matrix (stands* 𝓐 Γ χ f) ≈ plus 𝓐 (stands 𝓐 Γ χ u).matrix (stands* 𝓐 Γ χ g))

@@ -115,6 +115,12 @@ module _ {R : Type 0} {𝓐 : Arithmetic R} (𝓡 : StarSemiring 𝓐) {Γ : Con
   unit_value ket_zeros of_kets (ket_0 a) = ≡→≈ (cc (shape 𝓐 W F a))
   unit_value bra_zeros of_bras (bra_0 a) = ≡→≈ (cc (shape 𝓐 W F a))
   unit_value operator-zeros of_operators (opt_0 a b) = ≡→≈ (cc (shape 𝓐 W F a, shape 𝓐 W F b))
+  unit_value {f = f} ket_zeros (of_bras {σ = σ}) x7 = elim x7 [ ]
+  unit_value {f = f} ket_zeros (of_operators {σ = σ} {τ = τ}) x8 = elim x8 [ ]
+  unit_value {f = f} bra_zeros (of_kets {σ = σ}) x8 = elim x8 [ ]
+  unit_value {f = f} bra_zeros (of_operators {σ = σ} {τ = τ}) x9 = elim x9 [ ]
+  unit_value {f = f} operator-zeros (of_kets {σ = σ}) x9 = elim x9 [ ]
+  unit_value {f = f} operator-zeros (of_bras {σ = σ}) x10 = elim x10 [ ]
 
   -- ---- 5 and 7: one factor among others
   pub times_around : (b : Forest) (t : Tree) (a : Forest) → times 𝓐 (stands* 𝓐 Γ χ (b ⧺ t ▹ a)) ≡ 𝓐.mul (times 𝓐 (stands* 𝓐 Γ χ b)) (𝓐.mul (number (value Γ 𝓡 χ t)) (times 𝓐 (stands* 𝓐 Γ χ a)))

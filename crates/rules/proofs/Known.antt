@@ -30,7 +30,7 @@ carries =
     ⨾ (λ n. refl) ⨾ (λ n. refl) ⨾ (λ n. refl) ⨾ (λ n. refl) ⨾ (λ n. refl) ⨾ (λ n. refl) ⨾ (λ a. refl) ⨾ (λ n. refl) ⨾ (λ a. refl) ⨾ tt
 
 carried_few : (l : Label) (n : ℕ) → nameless l ≡ true → (head_of l n).1 ≤ n
-carried_few l n p = by _ (get_or heads (head_of l n).0 unknown) (every_at Carries (λ k. tt) heads 0 carries (head_of l n).0) (label_line l n)
+carried_few l n p = by (head_of l n).0 (get_or heads (head_of l n).0 unknown) (every_at Carries (λ k. tt) heads 0 carries (head_of l n).0) (label_line l n)
   where
     by : (k : ℕ) (h : Head) → Carries k h → Written l (head_of l n).1 h → (head_of l n).1 ≤ n
     by k unknown x w = absurd w

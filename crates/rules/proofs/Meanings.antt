@@ -216,6 +216,8 @@ module _ {R : Type 0} {𝓐 : Arithmetic R} (𝓡 : StarSemiring 𝓐) {Γ : Con
   pub means_66 : Means Γ 𝓡 χ 66
   unfolding value
   means_66 θ S (ket_adj (bra_mulb a b)) = Products.adjoint-mul 𝓡 _ _ (conformable (its a) (its b))
+  means_66 θ _ (bra_adj {σ = σ} x4) = elim x4 [ ]
+  means_66 θ _ (opt_adj {σ = σ} {τ = τ} x5) = elim x5 [ ]
 
   pub means_67 : Means Γ 𝓡 χ 67
   unfolding value
@@ -228,6 +230,8 @@ module _ {R : Type 0} {𝓐 : Arithmetic R} (𝓡 : StarSemiring 𝓐) {Γ : Con
   pub means_69 : Means Γ 𝓡 χ 69
   unfolding value
   means_69 θ S (bra_adj (ket_mulk a b)) = Products.adjoint-mul 𝓡 _ _ (conformable (its a) (its b))
+  means_69 θ _ (ket_adj {σ = σ} x4) = elim x4 [ ]
+  means_69 θ _ (opt_adj {σ = σ} {τ = τ} x5) = elim x5 [ ]
 
   pub means_70 : Means Γ 𝓡 χ 70
   unfolding value
@@ -240,10 +244,14 @@ module _ {R : Type 0} {𝓐 : Arithmetic R} (𝓡 : StarSemiring 𝓐) {Γ : Con
   pub means_72 : Means Γ 𝓡 χ 72
   unfolding value
   means_72 θ S (opt_adj (opt_outer a b)) = Products.adjoint-mul 𝓡 _ _ (conformable (its a) (its b))
+  means_72 θ _ (ket_adj {σ = σ} x4) = elim x4 [ ]
+  means_72 θ _ (bra_adj {σ = σ} x5) = elim x5 [ ]
 
   pub means_73 : Means Γ 𝓡 χ 73
   unfolding value
   means_73 θ S (opt_adj (opt_mulo a b)) = Products.adjoint-mul 𝓡 _ _ (conformable (its a) (its b))
+  means_73 θ _ (ket_adj {σ = σ} x4) = elim x4 [ ]
+  means_73 θ _ (bra_adj {σ = σ} x5) = elim x5 [ ]
 
   -- ---- table 7
   pub means_80 : Means Γ 𝓡 χ 80
@@ -257,34 +265,50 @@ module _ {R : Type 0} {𝓐 : Arithmetic R} (𝓡 : StarSemiring 𝓐) {Γ : Con
   pub means_84 : Means Γ 𝓡 χ 84
   unfolding value
   means_84 θ S (ket_tsr (ket_0 a) b h) = zeros-kronecker 𝓡 _ _ _ (cc (ket_rows b)) (one-mul _ ∙ (its b).columns)
+  means_84 θ _ (bra_tsr {σ = σ} {τ = τ} x13 _ _) = elim x13 [ ]
+  means_84 θ _ (opt_tsr {σ = σ} {τ = τ} {υ = υ} {φ = φ} x18 _ _ _) = elim x18 [ ]
 
   pub means_85 : Means Γ 𝓡 χ 85
   unfolding value
   means_85 θ S (ket_tsr a (ket_0 b) h) = kronecker-zeros 𝓡 _ _ _ (cc (ket_rows a)) (mul-one _ ∙ (its a).columns)
+  means_85 θ _ (bra_tsr {σ = σ} {τ = τ} _ x14 _) = elim x14 [ ]
+  means_85 θ _ (opt_tsr {σ = σ} {τ = τ} {υ = υ} {φ = φ} _ x19 _ _) = elim x19 [ ]
 
   pub means_86 : Means Γ 𝓡 χ 86
   unfolding value
   means_86 θ S (ket_tsr (ket_base a) (ket_base b) h) = Kronecker.kronecker-unit_column 𝓡 _ _ _ _ (below b)
+  means_86 θ _ (bra_tsr {σ = σ} {τ = τ} x13 _ _) = elim x13 [ ]
+  means_86 θ _ (opt_tsr {σ = σ} {τ = τ} {υ = υ} {φ = φ} x18 _ _ _) = elim x18 [ ]
 
   pub means_87 : Means Γ 𝓡 χ 87
   unfolding value
   means_87 θ S (bra_tsr (bra_0 a) b h) = zeros-kronecker 𝓡 _ _ _ (one-mul _ ∙ (its b).rows) (cc (bra_columns b))
+  means_87 θ _ (ket_tsr {σ = σ} {τ = τ} x13 _ _) = elim x13 [ ]
+  means_87 θ _ (opt_tsr {σ = σ} {τ = τ} {υ = υ} {φ = φ} x18 _ _ _) = elim x18 [ ]
 
   pub means_88 : Means Γ 𝓡 χ 88
   unfolding value
   means_88 θ S (bra_tsr a (bra_0 b) h) = kronecker-zeros 𝓡 _ _ _ (mul-one _ ∙ (its a).rows) (cc (bra_columns a))
+  means_88 θ _ (ket_tsr {σ = σ} {τ = τ} _ x14 _) = elim x14 [ ]
+  means_88 θ _ (opt_tsr {σ = σ} {τ = τ} {υ = υ} {φ = φ} _ x19 _ _) = elim x19 [ ]
 
   pub means_89 : Means Γ 𝓡 χ 89
   unfolding value
   means_89 θ S (bra_tsr (bra_base a) (bra_base b) h) = Kronecker.kronecker-unit_row 𝓡 _ _ _ _ (below b)
+  means_89 θ _ (ket_tsr {σ = σ} {τ = τ} x13 _ _) = elim x13 [ ]
+  means_89 θ _ (opt_tsr {σ = σ} {τ = τ} {υ = υ} {φ = φ} x18 _ _ _) = elim x18 [ ]
 
   pub means_90 : Means Γ 𝓡 χ 90
   unfolding value
   means_90 θ S (opt_tsr a (opt_0 b c) h k) = kronecker-zeros 𝓡 _ _ _ (cc (operator-rows a)) (cc (operator-columns a))
+  means_90 θ _ (ket_tsr {σ = σ} {τ = τ} _ x14 _) = elim x14 [ ]
+  means_90 θ _ (bra_tsr {σ = σ} {τ = τ} _ x15 _) = elim x15 [ ]
 
   pub means_91 : Means Γ 𝓡 χ 91
   unfolding value
   means_91 θ S (opt_tsr (opt_0 a b) c h k) = zeros-kronecker 𝓡 _ _ _ (cc (operator-rows c)) (cc (operator-columns c))
+  means_91 θ _ (ket_tsr {σ = σ} {τ = τ} x13 _ _) = elim x13 [ ]
+  means_91 θ _ (bra_tsr {σ = σ} {τ = τ} x14 _ _) = elim x14 [ ]
 
   pub means_92 : Means Γ 𝓡 χ 92
   unfolding value
@@ -293,6 +317,8 @@ module _ {R : Type 0} {𝓐 : Arithmetic R} (𝓡 : StarSemiring 𝓐) {Γ : Con
   pub means_93 : Means Γ 𝓡 χ 93
   unfolding value
   means_93 θ S (opt_tsr (opt_outer a b) (opt_outer c d) h k) = ≈-sym (Kronecker.mixed_product 𝓡 _ _ _ _ ((its c).columns ∙ sym (its d).rows))
+  means_93 θ _ (ket_tsr {σ = σ} {τ = τ} x13 _ _) = elim x13 [ ]
+  means_93 θ _ (bra_tsr {σ = σ} {τ = τ} x14 _ _) = elim x14 [ ]
 
   -- ---- table 8
   pub means_100 : Means Γ 𝓡 χ 100

@@ -71,7 +71,7 @@ step-keeps-type Γ W S t d s = outcome_type W d (step_decided Γ W S t d s)
 pub steps_keep_type : StepsKeepType
 unfolding steps_of
 steps_keep_type Γ W S t d [] = d
-steps_keep_type Γ W S t d (s ∷ ss) = steps_keep_type Γ W S _ (step-keeps-type Γ W S t d s) ss
+steps_keep_type Γ W S t d (s ∷ ss) = steps_keep_type Γ W S (step_of Γ t s).tree (step-keeps-type Γ W S t d s) ss
 
 module _ {R : Type 0} {𝓐 : Arithmetic R} (𝓡 : StarSemiring 𝓐) where
   step-keeps-meaning : {Γ : Context} {χ : Choice R} (W : WellFormed Γ) (F : Fits 𝓐 Γ χ) (S : Sort) (t : Tree) → Typed Γ S t → (s : Step)
@@ -82,7 +82,7 @@ module _ {R : Type 0} {𝓐 : Arithmetic R} (𝓡 : StarSemiring 𝓐) where
   unfolding steps_of
   steps_keep_meaning Γ χ W F S t d [] = same_refl S _
   steps_keep_meaning Γ χ W F S t d (s ∷ ss) =
-      same_trans S _ _ _ (step-keeps-meaning W F S t d s) (steps_keep_meaning Γ χ W F S _ (step-keeps-type Γ W S t d s) ss)
+      same_trans S _ _ _ (step-keeps-meaning W F S t d s) (steps_keep_meaning Γ χ W F S (step_of Γ t s).tree (step-keeps-type Γ W S t d s) ss)
 
   -- ---- runs
   record SidesKept (Γ : Context) (χ : Choice R) (S : Sort) (p q : Sides) : Type 0 where
@@ -117,7 +117,7 @@ module _ {R : Type 0} {𝓐 : Arithmetic R} (𝓡 : StarSemiring 𝓐) where
   run-kept W F p l r n [] = kept_refl l r
   run-kept {Γ} {χ} W F {S} p l r n (m ∷ ms) =
       let k = move-kept W F p m.side m.step l r in
-      by_code (eqb (step_of Γ (chosen m.side p) m.step).code 0) _ _ (kept_trans k (run-kept W F _ k.left_typed k.right-typed (n + 1) ms)) (kept_refl l r)
+      by_code (eqb (step_of Γ (chosen m.side p) m.step).code 0) _ _ (kept_trans k (run-kept W F (put m.side (step_of Γ (chosen m.side p) m.step).tree p) k.left_typed k.right-typed (n + 1) ms)) (kept_refl l r)
     where
       by_code : (b : Bool) (x y : Run) → SidesKept Γ χ S p x.sides → SidesKept Γ χ S p y.sides → SidesKept Γ χ S p (cond b x y).sides
       by_code true x y a c = a

@@ -87,6 +87,8 @@ module _ {Γ : Context} (W : WellFormed Γ) where
 
   pub keeps_44 : Keeps Γ 44
   keeps_44 θ S (ket_scr a (ket_0 b)) = ket_0 b
+  keeps_44 θ _ (bra_scr {σ = σ} _ x10) = elim x10 [ ]
+  keeps_44 θ _ (opt_scr {σ = σ} {τ = τ} _ x11) = elim x11 [ ]
 
   pub keeps_45 : Keeps Γ 45
   keeps_45 θ S k (ket_scr sca_0 a) = absurd (not_so (rw (sort-is W a) at k))
@@ -95,6 +97,8 @@ module _ {Γ : Context} (W : WellFormed Γ) where
 
   pub keeps_46 : Keeps Γ 46
   keeps_46 θ S (bra_scr a (bra_0 b)) = bra_0 b
+  keeps_46 θ _ (ket_scr {σ = σ} _ x10) = elim x10 [ ]
+  keeps_46 θ _ (opt_scr {σ = σ} {τ = τ} _ x11) = elim x11 [ ]
 
   pub keeps_47 : Keeps Γ 47
   keeps_47 θ S k (ket_scr sca_0 a) = absurd (not_so (rw (sort-is W a) at k))
@@ -103,6 +107,8 @@ module _ {Γ : Context} (W : WellFormed Γ) where
 
   pub keeps_48 : Keeps Γ 48
   keeps_48 θ S (opt_scr a (opt_0 b c)) = opt_0 b c
+  keeps_48 θ _ (ket_scr {σ = σ} _ x10) = elim x10 [ ]
+  keeps_48 θ _ (bra_scr {σ = σ} _ x11) = elim x11 [ ]
 
   pub keeps_50 : Keeps Γ 50
   keeps_50 θ S (ket_add a every_none) = a
@@ -126,33 +132,53 @@ module _ {Γ : Context} (W : WellFormed Γ) where
 
   pub keeps_64 : Keeps Γ 64
   keeps_64 θ S (ket_adj (bra_0 a)) = ket_0 a
+  keeps_64 θ _ (bra_adj {σ = σ} x4) = elim x4 [ ]
+  keeps_64 θ _ (opt_adj {σ = σ} {τ = τ} x5) = elim x5 [ ]
 
   pub keeps_65 : Keeps Γ 65
   keeps_65 θ S (ket_adj (bra_base a)) = ket_base a
+  keeps_65 θ _ (bra_adj {σ = σ} x4) = elim x4 [ ]
+  keeps_65 θ _ (opt_adj {σ = σ} {τ = τ} x5) = elim x5 [ ]
 
   pub keeps_66 : Keeps Γ 66
   keeps_66 θ S (ket_adj (bra_mulb a b)) = ket_mulk (opt_adj b) (ket_adj a)
+  keeps_66 θ _ (bra_adj {σ = σ} x4) = elim x4 [ ]
+  keeps_66 θ _ (opt_adj {σ = σ} {τ = τ} x5) = elim x5 [ ]
 
   pub keeps_67 : Keeps Γ 67
   keeps_67 θ S (bra_adj (ket_0 a)) = bra_0 a
+  keeps_67 θ _ (ket_adj {σ = σ} x4) = elim x4 [ ]
+  keeps_67 θ _ (opt_adj {σ = σ} {τ = τ} x5) = elim x5 [ ]
 
   pub keeps_68 : Keeps Γ 68
   keeps_68 θ S (bra_adj (ket_base a)) = bra_base a
+  keeps_68 θ _ (ket_adj {σ = σ} x4) = elim x4 [ ]
+  keeps_68 θ _ (opt_adj {σ = σ} {τ = τ} x5) = elim x5 [ ]
 
   pub keeps_69 : Keeps Γ 69
   keeps_69 θ S (bra_adj (ket_mulk a b)) = bra_mulb (bra_adj b) (opt_adj a)
+  keeps_69 θ _ (ket_adj {σ = σ} x4) = elim x4 [ ]
+  keeps_69 θ _ (opt_adj {σ = σ} {τ = τ} x5) = elim x5 [ ]
 
   pub keeps_70 : Keeps Γ 70
   keeps_70 θ S (opt_adj (opt_0 a b)) = opt_0 b a
+  keeps_70 θ _ (ket_adj {σ = σ} x4) = elim x4 [ ]
+  keeps_70 θ _ (bra_adj {σ = σ} x5) = elim x5 [ ]
 
   pub keeps_71 : Keeps Γ 71
   keeps_71 θ S (opt_adj (opt_1 a)) = opt_1 a
+  keeps_71 θ _ (ket_adj {σ = σ} x4) = elim x4 [ ]
+  keeps_71 θ _ (bra_adj {σ = σ} x5) = elim x5 [ ]
 
   pub keeps_72 : Keeps Γ 72
   keeps_72 θ S (opt_adj (opt_outer a b)) = opt_outer (ket_adj b) (bra_adj a)
+  keeps_72 θ _ (ket_adj {σ = σ} x4) = elim x4 [ ]
+  keeps_72 θ _ (bra_adj {σ = σ} x5) = elim x5 [ ]
 
   pub keeps_73 : Keeps Γ 73
   keeps_73 θ S (opt_adj (opt_mulo a b)) = opt_mulo (opt_adj b) (opt_adj a)
+  keeps_73 θ _ (ket_adj {σ = σ} x4) = elim x4 [ ]
+  keeps_73 θ _ (bra_adj {σ = σ} x5) = elim x5 [ ]
 
   pub keeps_80 : Keeps Γ 80
   keeps_80 θ S (ket_tsr (ket_scr a b) c h) = ket_scr a (ket_tsr b c h)
@@ -166,33 +192,53 @@ module _ {Γ : Context} (W : WellFormed Γ) where
 
   pub keeps_84 : Keeps Γ 84
   keeps_84 θ S (ket_tsr (ket_0 a) b h) = rw (sort-is W b) (ket_0 (base_prod a (proper W b) h))
+  keeps_84 θ _ (bra_tsr {σ = σ} {τ = τ} x13 _ _) = elim x13 [ ]
+  keeps_84 θ _ (opt_tsr {σ = σ} {τ = τ} {υ = υ} {φ = φ} x18 _ _ _) = elim x18 [ ]
 
   pub keeps_85 : Keeps Γ 85
   keeps_85 θ S (ket_tsr a (ket_0 b) h) = rw (sort-is W a) (ket_0 (base_prod (proper W a) b h))
+  keeps_85 θ _ (bra_tsr {σ = σ} {τ = τ} _ x14 _) = elim x14 [ ]
+  keeps_85 θ _ (opt_tsr {σ = σ} {τ = τ} {υ = υ} {φ = φ} _ x19 _ _) = elim x19 [ ]
 
   pub keeps_86 : Keeps Γ 86
   keeps_86 θ S (ket_tsr (ket_base a) (ket_base b) h) = ket_base (pair_base a b h)
+  keeps_86 θ _ (bra_tsr {σ = σ} {τ = τ} x13 _ _) = elim x13 [ ]
+  keeps_86 θ _ (opt_tsr {σ = σ} {τ = τ} {υ = υ} {φ = φ} x18 _ _ _) = elim x18 [ ]
 
   pub keeps_87 : Keeps Γ 87
   keeps_87 θ S (bra_tsr (bra_0 a) b h) = rw (sort-is W b) (bra_0 (base_prod a (proper W b) h))
+  keeps_87 θ _ (ket_tsr {σ = σ} {τ = τ} x13 _ _) = elim x13 [ ]
+  keeps_87 θ _ (opt_tsr {σ = σ} {τ = τ} {υ = υ} {φ = φ} x18 _ _ _) = elim x18 [ ]
 
   pub keeps_88 : Keeps Γ 88
   keeps_88 θ S (bra_tsr a (bra_0 b) h) = rw (sort-is W a) (bra_0 (base_prod (proper W a) b h))
+  keeps_88 θ _ (ket_tsr {σ = σ} {τ = τ} _ x14 _) = elim x14 [ ]
+  keeps_88 θ _ (opt_tsr {σ = σ} {τ = τ} {υ = υ} {φ = φ} _ x19 _ _) = elim x19 [ ]
 
   pub keeps_89 : Keeps Γ 89
   keeps_89 θ S (bra_tsr (bra_base a) (bra_base b) h) = bra_base (pair_base a b h)
+  keeps_89 θ _ (ket_tsr {σ = σ} {τ = τ} x13 _ _) = elim x13 [ ]
+  keeps_89 θ _ (opt_tsr {σ = σ} {τ = τ} {υ = υ} {φ = φ} x18 _ _ _) = elim x18 [ ]
 
   pub keeps_90 : Keeps Γ 90
   keeps_90 θ S (opt_tsr a (opt_0 b c) h k) = rw (sort-is W a) (opt_0 (base_prod (proper W a).0 b h) (base_prod (proper W a).1 c k))
+  keeps_90 θ _ (ket_tsr {σ = σ} {τ = τ} _ x14 _) = elim x14 [ ]
+  keeps_90 θ _ (bra_tsr {σ = σ} {τ = τ} _ x15 _) = elim x15 [ ]
 
   pub keeps_91 : Keeps Γ 91
   keeps_91 θ S (opt_tsr (opt_0 a b) c h k) = rw (sort-is W c) (opt_0 (base_prod a (proper W c).0 h) (base_prod b (proper W c).1 k))
+  keeps_91 θ _ (ket_tsr {σ = σ} {τ = τ} x13 _ _) = elim x13 [ ]
+  keeps_91 θ _ (bra_tsr {σ = σ} {τ = τ} x14 _ _) = elim x14 [ ]
 
   pub keeps_92 : Keeps Γ 92
   keeps_92 θ S (opt_tsr (opt_1 a) (opt_1 b) h k) = opt_1 (base_prod a b h)
+  keeps_92 θ _ (ket_tsr {σ = σ} {τ = τ} x13 _ _) = elim x13 [ ]
+  keeps_92 θ _ (bra_tsr {σ = σ} {τ = τ} x14 _ _) = elim x14 [ ]
 
   pub keeps_93 : Keeps Γ 93
   keeps_93 θ S (opt_tsr (opt_outer a b) (opt_outer c d) h k) = opt_outer (ket_tsr a c h) (bra_tsr b d k)
+  keeps_93 θ _ (ket_tsr {σ = σ} {τ = τ} x13 _ _) = elim x13 [ ]
+  keeps_93 θ _ (bra_tsr {σ = σ} {τ = τ} x14 _ _) = elim x14 [ ]
 
   pub keeps_100 : Keeps Γ 100
   keeps_100 θ S (ket_mulk (opt_0 a b) c) = ket_0 a
