@@ -15,11 +15,11 @@ match_word-m-requires c = c.loop-k.invariant.1
 
 pub returns-then-not-m : goal.returns-then-not-m
 returns-then-not-m c =
-    asked-stops _ _ _ _ c.loop-k.invariant.2 c.loop-k-test.true c.match_word-m.ensures c.if-not-m.true
+    asked-stops _ _ _ _ c.loop-k.invariant.2 c.loop-k-test.true c.match_word-m.ensures (not-true _ c.if-not-m.true)
 
 pub loop-k-preserved : goal.loop-k-preserved
 loop-k-preserved c =
-    let w = c.if-not-m.false in
+    let w = (not-false _ c.if-not-m.false) in
     let e = c.match_word-m.ensures in
     (omega arith, standing_next c.loop-k.invariant.1 _ e w, asked-more _ _ _ _ c.loop-k.invariant.2 c.loop-k-test.true e w)
 

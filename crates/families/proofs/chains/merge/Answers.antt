@@ -23,7 +23,7 @@ returns-then-not-c c =
       chained = sym c.is_chain.ensures ∙ c.if-not-is_chain.false;
       under = c.child_under-c.ensures;
     } in
-    λ Γ. refuses _ (merges-none merging Γ c.if-not-c.true)
+    λ Γ. refuses _ (merges-none merging Γ (not-true _ c.if-not-c.true))
 
 pub offset_bounds-ws-start : goal.offset_bounds-ws-start
 offset_bounds-ws-start c =
@@ -32,7 +32,7 @@ offset_bounds-ws-start c =
       chained = sym c.is_chain.ensures ∙ c.if-not-is_chain.false;
       under = c.child_under-c.ensures;
     } in
-    let there : c.child_under-c.result.there ≡ true = c.if-not-c.false in
+    let there : c.child_under-c.result.there ≡ true = (not-false _ c.if-not-c.false) in
     omega (arith, child-inside merging there)
 
 pub bounds-ws-start : goal.bounds-ws-start
@@ -42,7 +42,7 @@ bounds-ws-start c =
       chained = sym c.is_chain.ensures ∙ c.if-not-is_chain.false;
       under = c.child_under-c.ensures;
     } in
-    let there : c.child_under-c.result.there ≡ true = c.if-not-c.false in
+    let there : c.child_under-c.result.there ≡ true = (not-false _ c.if-not-c.false) in
     omega (arith, child-inside merging there)
 
 pub returns-then-head-more-gt256 : goal.returns-then-head-more-gt256
@@ -52,7 +52,7 @@ returns-then-head-more-gt256 c =
       chained = sym c.is_chain.ensures ∙ c.if-not-is_chain.false;
       under = c.child_under-c.ensures;
     } in
-    let there : c.child_under-c.result.there ≡ true = c.if-not-c.false in
+    let there : c.child_under-c.result.there ≡ true = (not-false _ c.if-not-c.false) in
     λ Γ.
     let m = merging in
     exceeds _ _ (merges-child m there Γ) (merged_many m there c.if-head-more-gt256.true)
@@ -64,7 +64,7 @@ overflow_sub-head c =
       chained = sym c.is_chain.ensures ∙ c.if-not-is_chain.false;
       under = c.child_under-c.ensures;
     } in
-    let there : c.child_under-c.result.there ≡ true = c.if-not-c.false in
+    let there : c.child_under-c.result.there ≡ true = (not-false _ c.if-not-c.false) in
     omega (arith, low_bytes merging there)
 
 pub overflow_add-head-2 : goal.overflow_add-head-2
@@ -74,7 +74,7 @@ overflow_add-head-2 c =
       chained = sym c.is_chain.ensures ∙ c.if-not-is_chain.false;
       under = c.child_under-c.ensures;
     } in
-    let there : c.child_under-c.result.there ≡ true = c.if-not-c.false in
+    let there : c.child_under-c.result.there ≡ true = (not-false _ c.if-not-c.false) in
     let low = low_bytes merging there in
     omega (arith, c.if-head-more-gt256.false, c.shared_slice_known-2-1.given 0)
 
@@ -85,7 +85,7 @@ overflow_add-start c =
       chained = sym c.is_chain.ensures ∙ c.if-not-is_chain.false;
       under = c.child_under-c.ensures;
     } in
-    let there : c.child_under-c.result.there ≡ true = c.if-not-c.false in
+    let there : c.child_under-c.result.there ≡ true = (not-false _ c.if-not-c.false) in
     omega (arith, child-inside merging there)
 
 pub append_without-done-requires : goal.append_without-done-requires
@@ -95,7 +95,7 @@ append_without-done-requires c =
       chained = sym c.is_chain.ensures ∙ c.if-not-is_chain.false;
       under = c.child_under-c.ensures;
     } in
-    let there : c.child_under-c.result.there ≡ true = c.if-not-c.false in
+    let there : c.child_under-c.result.there ≡ true = (not-false _ c.if-not-c.false) in
     omega (arith, child-inside merging there)
 
 pub returns : goal.returns
@@ -105,7 +105,7 @@ returns c =
       chained = sym c.is_chain.ensures ∙ c.if-not-is_chain.false;
       under = c.child_under-c.ensures;
     } in
-    let there : c.child_under-c.result.there ≡ true = c.if-not-c.false in
+    let there : c.child_under-c.result.there ≡ true = (not-false _ c.if-not-c.false) in
     λ Γ.
     let m = merging in
     let t = there in

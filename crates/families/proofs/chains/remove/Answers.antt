@@ -13,19 +13,19 @@ pub bounds-ws-0 : goal.bounds-ws-0
 bounds-ws-0 c = some_word c.requires
 
 pub returns-then-not-c : goal.returns-then-not-c
-returns-then-not-c c = λ l d P N Γ. refuses _ (removes-none Γ P N c.requires c.child_under-c.ensures c.if-not-c.true)
+returns-then-not-c c = λ l d P N Γ. refuses _ (removes-none Γ P N c.requires c.child_under-c.ensures (not-true _ c.if-not-c.true))
 
 pub returns-then-head-lt2 : goal.returns-then-head-lt2
 returns-then-head-lt2 c = λ l d P N Γ.
-    refuses _ (removes_only Γ P N c.requires c.child_under-c.ensures c.if-not-c.false c.if-head-lt2.true)
+    refuses _ (removes_only Γ P N c.requires c.child_under-c.ensures (not-false _ c.if-not-c.false) c.if-head-lt2.true)
 
 pub append_without-done-requires : goal.append_without-done-requires
 append_without-done-requires c =
-    omega (arith, child-bounds (found c.requires c.child_under-c.ensures c.if-not-c.false))
+    omega (arith, child-bounds (found c.requires c.child_under-c.ensures (not-false _ c.if-not-c.false)))
 
 pub returns : goal.returns
 returns c = λ l d P N Γ.
     let w = c.requires in
     let e = c.child_under-c.ensures in
-    let t = c.if-not-c.false in
+    let t = (not-false _ c.if-not-c.false) in
     writes _ _ (removes-child Γ P N w e t c.if-head-lt2.false) (removed_few Γ P N w e t) (added_as (removed_words Γ P N w e t) c.append_without-done.ensures)

@@ -17,16 +17,16 @@ returns-then-not-is_loose c = λ Γ. refuses _ (swaps_other Γ _ c.requires (sym
 
 pub returns-then-not-c : goal.returns-then-not-c
 returns-then-not-c c = λ Γ.
-    refuses _ (swaps-outside Γ _ c.requires (no_child_lem _ _ c.child_at-c.ensures c.if-not-c.true))
+    refuses _ (swaps-outside Γ _ c.requires (no_child_lem _ _ c.child_at-c.ensures (not-true _ c.if-not-c.true)))
 
 pub returns-then-middle-ws : goal.returns-then-middle-ws
 returns-then-middle-ws c =
-    let found : let args = c.args in Split args.ws.now args.i c.child_at-c.result.start c.child_at-c.result.end = split c.requires c.child_at-c.ensures c.if-not-c.false in
+    let found : let args = c.args in Split args.ws.now args.i c.child_at-c.result.start c.child_at-c.result.end = split c.requires c.child_at-c.ensures (not-false _ c.if-not-c.false) in
     λ Γ. refuses _ (swaps_last found Γ c.if-middle-ws.true)
 
 pub returns : goal.returns
 returns c =
-    let found : let args = c.args in Split args.ws.now args.i c.child_at-c.result.start c.child_at-c.result.end = split c.requires c.child_at-c.ensures c.if-not-c.false in
+    let found : let args = c.args in Split args.ws.now args.i c.child_at-c.result.start c.child_at-c.result.end = split c.requires c.child_at-c.ensures (not-false _ c.if-not-c.false) in
     λ Γ.
     let s = found in
     let n = next_child s c.if-middle-ws.false c.part_end-end.ensures in

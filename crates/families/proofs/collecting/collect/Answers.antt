@@ -19,28 +19,28 @@ bounds-ws-0 c = some_word c.requires
 pub returns-then-ws-ne-SUM : goal.returns-then-ws-ne-SUM
 returns-then-ws-ne-SUM c = λ x y e e' Γ.
     let w = c.requires in
-    refuses _ (⊎_elim (λ t. collects_other Γ x y _ _ w t.taken) (λ t. collects-order Γ x y _ _ w (leb-true _ _ t.1.taken)) c.if-ws-ne-SUM.branch)
+    refuses _ (⊎_elim (λ t. collects_other Γ x y _ _ w t) (λ t. collects-order Γ x y _ _ w t.1) c.then-ws-ne-SUM.either)
 
 pub returns-then-not-second : goal.returns-then-not-second
 returns-then-not-second c = λ x y e e' Γ.
-    refuses _ (collects-outside Γ x y _ _ c.requires (no_child_lem _ _ c.child_at-second.ensures c.if-not-second.true))
+    refuses _ (collects-outside Γ x y _ _ c.requires (no_child_lem _ _ c.child_at-second.ensures (not-true _ c.if-not-second.true)))
 
 pub x_of-x-requires : goal.x_of-x-requires
 x_of-x-requires c =
     let found : let args = c.args in Pair args.ws.now args.i args.j c.child_at-first.result.start c.child_at-first.result.end c.child_at-second.result.start c.child_at-second.result.end = let w = c.requires in
-    pair w (leb-false _ _ c.if-j-i.false) c.child_at-first.ensures c.child_at-second.ensures c.if-not-second.false in
+    pair w c.if-j-i.false c.child_at-first.ensures c.child_at-second.ensures (not-false _ c.if-not-second.false) in
     omega (arith, pair-bounds found)
 
 pub x_of-y-requires : goal.x_of-y-requires
 x_of-y-requires c =
     let found : let args = c.args in Pair args.ws.now args.i args.j c.child_at-first.result.start c.child_at-first.result.end c.child_at-second.result.start c.child_at-second.result.end = let w = c.requires in
-    pair w (leb-false _ _ c.if-j-i.false) c.child_at-first.ensures c.child_at-second.ensures c.if-not-second.false in
+    pair w c.if-j-i.false c.child_at-first.ensures c.child_at-second.ensures (not-false _ c.if-not-second.false) in
     omega (arith, pair-bounds found)
 
 pub same_x-requires : goal.same_x-requires
 same_x-requires c =
     let found : let args = c.args in Pair args.ws.now args.i args.j c.child_at-first.result.start c.child_at-first.result.end c.child_at-second.result.start c.child_at-second.result.end = let w = c.requires in
-    pair w (leb-false _ _ c.if-j-i.false) c.child_at-first.ensures c.child_at-second.ensures c.if-not-second.false in
+    pair w c.if-j-i.false c.child_at-first.ensures c.child_at-second.ensures (not-false _ c.if-not-second.false) in
     let first-x : Sought found.first c.args.u c.x_of-x.result = locate found.first c.args.u c.x_of-x.ensures in
     let second-x : Sought found.second c.args.v c.x_of-y.result = locate found.second c.args.v c.x_of-y.ensures in
     let b = pair-bounds found in (located_end first-x, omega arith, located_end second-x, b.4)
@@ -48,7 +48,7 @@ same_x-requires c =
 pub returns-then-not-same_x : goal.returns-then-not-same_x
 returns-then-not-same_x c =
     let found : let args = c.args in Pair args.ws.now args.i args.j c.child_at-first.result.start c.child_at-first.result.end c.child_at-second.result.start c.child_at-second.result.end = let w = c.requires in
-    pair w (leb-false _ _ c.if-j-i.false) c.child_at-first.ensures c.child_at-second.ensures c.if-not-second.false in
+    pair w c.if-j-i.false c.child_at-first.ensures c.child_at-second.ensures (not-false _ c.if-not-second.false) in
     let first-x : Sought found.first c.args.u c.x_of-x.result = locate found.first c.args.u c.x_of-x.ensures in
     let second-x : Sought found.second c.args.v c.x_of-y.result = locate found.second c.args.v c.x_of-y.ensures in
     λ x y e e' Γ.
@@ -58,7 +58,7 @@ returns-then-not-same_x c =
 pub factor-c-requires : goal.factor-c-requires
 factor-c-requires c =
     let found : let args = c.args in Pair args.ws.now args.i args.j c.child_at-first.result.start c.child_at-first.result.end c.child_at-second.result.start c.child_at-second.result.end = let w = c.requires in
-    pair w (leb-false _ _ c.if-j-i.false) c.child_at-first.ensures c.child_at-second.ensures c.if-not-second.false in
+    pair w c.if-j-i.false c.child_at-first.ensures c.child_at-second.ensures (not-false _ c.if-not-second.false) in
     let first-x : Sought found.first c.args.u c.x_of-x.result = locate found.first c.args.u c.x_of-x.ensures in
     let second-x : Sought found.second c.args.v c.x_of-y.result = locate found.second c.args.v c.x_of-y.ensures in
     let both : let args = c.args in Both found args.u args.v c.x_of-x.result c.x_of-y.result = let args = c.args in
@@ -68,7 +68,7 @@ factor-c-requires c =
 pub factor-d-requires : goal.factor-d-requires
 factor-d-requires c =
     let found : let args = c.args in Pair args.ws.now args.i args.j c.child_at-first.result.start c.child_at-first.result.end c.child_at-second.result.start c.child_at-second.result.end = let w = c.requires in
-    pair w (leb-false _ _ c.if-j-i.false) c.child_at-first.ensures c.child_at-second.ensures c.if-not-second.false in
+    pair w c.if-j-i.false c.child_at-first.ensures c.child_at-second.ensures (not-false _ c.if-not-second.false) in
     let first-x : Sought found.first c.args.u c.x_of-x.result = locate found.first c.args.u c.x_of-x.ensures in
     let second-x : Sought found.second c.args.v c.x_of-y.result = locate found.second c.args.v c.x_of-y.ensures in
     let both : let args = c.args in Both found args.u args.v c.x_of-x.result c.x_of-y.result = let args = c.args in
@@ -81,13 +81,13 @@ bounds-ws-0-2 c = some_word c.requires
 pub append_others-kept-requires : goal.append_others-kept-requires
 append_others-kept-requires c =
     let found : let args = c.args in Pair args.ws.now args.i args.j c.child_at-first.result.start c.child_at-first.result.end c.child_at-second.result.start c.child_at-second.result.end = let w = c.requires in
-    pair w (leb-false _ _ c.if-j-i.false) c.child_at-first.ensures c.child_at-second.ensures c.if-not-second.false in
+    pair w c.if-j-i.false c.child_at-first.ensures c.child_at-second.ensures (not-false _ c.if-not-second.false) in
     omega (arith, pair-bounds found)
 
 pub offset_bounds-ws-x : goal.offset_bounds-ws-x
 offset_bounds-ws-x c =
     let found : let args = c.args in Pair args.ws.now args.i args.j c.child_at-first.result.start c.child_at-first.result.end c.child_at-second.result.start c.child_at-second.result.end = let w = c.requires in
-    pair w (leb-false _ _ c.if-j-i.false) c.child_at-first.ensures c.child_at-second.ensures c.if-not-second.false in
+    pair w c.if-j-i.false c.child_at-first.ensures c.child_at-second.ensures (not-false _ c.if-not-second.false) in
     let first-x : Sought found.first c.args.u c.x_of-x.result = locate found.first c.args.u c.x_of-x.ensures in
     let second-x : Sought found.second c.args.v c.x_of-y.result = locate found.second c.args.v c.x_of-y.ensures in
     let both : let args = c.args in Both found args.u args.v c.x_of-x.result c.x_of-y.result = let args = c.args in
@@ -98,7 +98,7 @@ offset_bounds-ws-x c =
 pub slice_bounds-append_multiple-count : goal.slice_bounds-append_multiple-count
 slice_bounds-append_multiple-count c =
     let found : let args = c.args in Pair args.ws.now args.i args.j c.child_at-first.result.start c.child_at-first.result.end c.child_at-second.result.start c.child_at-second.result.end = let w = c.requires in
-    pair w (leb-false _ _ c.if-j-i.false) c.child_at-first.ensures c.child_at-second.ensures c.if-not-second.false in
+    pair w c.if-j-i.false c.child_at-first.ensures c.child_at-second.ensures (not-false _ c.if-not-second.false) in
     let first-x : Sought found.first c.args.u c.x_of-x.result = locate found.first c.args.u c.x_of-x.ensures in
     let second-x : Sought found.second c.args.v c.x_of-y.result = locate found.second c.args.v c.x_of-y.ensures in
     let both : let args = c.args in Both found args.u args.v c.x_of-x.result c.x_of-y.result = let args = c.args in
@@ -109,7 +109,7 @@ slice_bounds-append_multiple-count c =
 pub slice_bounds-append_multiple-start : goal.slice_bounds-append_multiple-start
 slice_bounds-append_multiple-start c =
     let found : let args = c.args in Pair args.ws.now args.i args.j c.child_at-first.result.start c.child_at-first.result.end c.child_at-second.result.start c.child_at-second.result.end = let w = c.requires in
-    pair w (leb-false _ _ c.if-j-i.false) c.child_at-first.ensures c.child_at-second.ensures c.if-not-second.false in
+    pair w c.if-j-i.false c.child_at-first.ensures c.child_at-second.ensures (not-false _ c.if-not-second.false) in
     let first-x : Sought found.first c.args.u c.x_of-x.result = locate found.first c.args.u c.x_of-x.ensures in
     let second-x : Sought found.second c.args.v c.x_of-y.result = locate found.second c.args.v c.x_of-y.ensures in
     let both : let args = c.args in Both found args.u args.v c.x_of-x.result c.x_of-y.result = let args = c.args in
@@ -120,7 +120,7 @@ slice_bounds-append_multiple-start c =
 pub slice_bounds-append_multiple-end : goal.slice_bounds-append_multiple-end
 slice_bounds-append_multiple-end c =
     let found : let args = c.args in Pair args.ws.now args.i args.j c.child_at-first.result.start c.child_at-first.result.end c.child_at-second.result.start c.child_at-second.result.end = let w = c.requires in
-    pair w (leb-false _ _ c.if-j-i.false) c.child_at-first.ensures c.child_at-second.ensures c.if-not-second.false in
+    pair w c.if-j-i.false c.child_at-first.ensures c.child_at-second.ensures (not-false _ c.if-not-second.false) in
     let first-x : Sought found.first c.args.u c.x_of-x.result = locate found.first c.args.u c.x_of-x.ensures in
     let second-x : Sought found.second c.args.v c.x_of-y.result = locate found.second c.args.v c.x_of-y.ensures in
     let both : let args = c.args in Both found args.u args.v c.x_of-x.result c.x_of-y.result = let args = c.args in
@@ -131,7 +131,7 @@ slice_bounds-append_multiple-end c =
 pub returns : goal.returns
 returns c =
     let found : let args = c.args in Pair args.ws.now args.i args.j c.child_at-first.result.start c.child_at-first.result.end c.child_at-second.result.start c.child_at-second.result.end = let w = c.requires in
-    pair w (leb-false _ _ c.if-j-i.false) c.child_at-first.ensures c.child_at-second.ensures c.if-not-second.false in
+    pair w c.if-j-i.false c.child_at-first.ensures c.child_at-second.ensures (not-false _ c.if-not-second.false) in
     let first-x : Sought found.first c.args.u c.x_of-x.result = locate found.first c.args.u c.x_of-x.ensures in
     let second-x : Sought found.second c.args.v c.x_of-y.result = locate found.second c.args.v c.x_of-y.ensures in
     let both : let args = c.args in Both found args.u args.v c.x_of-x.result c.x_of-y.result = let args = c.args in
