@@ -53,13 +53,13 @@ module _ {ds : List ℕ} {S : Sort} where
   course : {w : Work} {t : Tree} → Holds ds w t S → (ss : List Step) → Course ds w t ss (steps ds t ss)
   unfolding steps_of
   course h [] = ended
-  course {t} h (s ∷ ss) = called (step_decided _ (well_formed ds h.good) S t (its_type h) (asked s)) (entry _ _ _ _ _ h s) (course (holds_next h s) ss)
+  course {w = w} {t = t} h (s ∷ ss) = called (step_decided _ (well_formed ds h.good) S t (its_type h) (asked s)) (entry _ _ _ _ _ h s) (course {w = after ds w s} (holds_next h s) ss)
 
   left_after_lem : {w : Work} {t : Tree} → Holds ds w t S → (ss : List Step) → after_all ds w ss ≡ leaving w ss (steps ds t ss)
   unfolding after_all steps_of
   left_after_lem h [] = refl
   left_after_lem h (s ∷ []) = after_call h s
-  left_after_lem h (s ∷ r ∷ ss) = left_after_lem (holds_next h s) (r ∷ ss)
+  left_after_lem {w = w} h (s ∷ r ∷ ss) = left_after_lem {w = after ds w s} (holds_next h s) (r ∷ ss)
 
 pub lists : Lists
 lists ds w t S h ss =

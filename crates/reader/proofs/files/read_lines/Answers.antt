@@ -62,7 +62,7 @@ pub overflow_add-line : goal.overflow_add-line
 overflow_add-line c =
     let within : Within c.loop-ended.at c.piece_at-span.result c.args.bytes.now = (line_at c.loop-ended.invariant c.loop-ended-test.true c.piece_at-span.ensures).within in
     let w = within in
-    let l = c.loop.invariant.counted in
+    let l = c.loop-ended.invariant.counted in
     let good = c in
     let b = good.before.before.bytes-fault.ensures.few good.if1.left in
     omega arith
@@ -74,7 +74,7 @@ loop-ended-smaller c =
 
 pub loop-ended-preserved : goal.loop-ended-preserved
 loop-ended-preserved c =
-    line_taken_lem c.loop.invariant c.loop-ended-test.true c.piece_at-span.ensures c.take_line-taken.ensures c.if-fault-ne0.false
+    line_taken_lem c.loop-ended.invariant c.loop-ended-test.true c.piece_at-span.ensures c.take_line-taken.ensures c.if-fault-ne0.false
 
 pub shape_of-ds : goal.shape_of-ds
 shape_of-ds c = c.loop-ended.invariant.sizes.0 ∙ sym c.requires.0

@@ -30,35 +30,35 @@ slice_bounds-match_words-end c = left-size c.requires.1 c.copy_from.ensures
 
 pub returns-then-not-found : goal.returns-then-not-found
 returns-then-not-found c =
-    let walked : (e : EquationOf c) → c.match_words-found.result ≡ match_of (pattern_words e.left) c.args.ws.now = λ e. rw (left_side e c.copy-from.ensures) at c.match_words-found.ensures in
+    let walked : (e : Equation c.args.s.rule c.args.row) → c.match_words-found.result ≡ match_of (pattern_words e.left) c.args.ws.now = λ e. rw (left_side e c.copy_from.ensures) at c.match_words-found.ensures in
     λ s e.
-    refuses _ (no_left _ _ _ _ _ _ _ c.before.before.if1.false c.if2.false (found_none _ e.rule s (walked e) (not-true _ c.if-not-found.true)))
+    refuses _ (no_left _ _ _ _ _ _ _ c.if-s-ne0.false c.if-s-ne0-2.false (found_none _ e.rule s (walked e) (not-true _ c.if-not-found.true)))
 
 pub is_met-requires : goal.is_met-requires
 is_met-requires c =
-    let walked : (e : EquationOf c) → c.match_words-found.result ≡ match_of (pattern_words e.left) c.args.ws.now = λ e. rw (left_side e c.copy-from.ensures) at c.match_words-found.ensures in
-    let found : (s : SiteOf c) (e : EquationOf c) → Caughts _ e.rule s c.match_words-found.result = λ s e. found_in _ e.rule s (walked e) (not-false _ c.if-not-found.false) in
+    let walked : (e : Equation c.args.s.rule c.args.row) → c.match_words-found.result ≡ match_of (pattern_words e.left) c.args.ws.now = λ e. rw (left_side e c.copy_from.ensures) at c.match_words-found.ensures in
+    let found : (s : Site c.args.ds.now c.args.term.now c.args.s.place c.args.ws.now) (e : Equation c.args.s.rule c.args.row) → Caughts _ e.rule s c.match_words-found.result = λ s e. found_in _ e.rule s (walked e) (not-false _ c.if-not-found.false) in
     let pre = c.requires in
     let f = found pre.0 pre.1 in
     (held _ pre.1.rule pre.0 f, pre.1.condition, condition-is pre.1, condition-known _ pre.1.rule pre.0 f, condition-asks _ pre.1.rule pre.0 f)
 
 pub returns-then-not-is_met : goal.returns-then-not-is_met
 returns-then-not-is_met c =
-    let walked : (e : EquationOf c) → c.match_words-found.result ≡ match_of (pattern_words e.left) c.args.ws.now = λ e. rw (left_side e c.copy-from.ensures) at c.match_words-found.ensures in
-    let found : (s : SiteOf c) (e : EquationOf c) → Caughts _ e.rule s c.match_words-found.result = λ s e. found_in _ e.rule s (walked e) (not-false _ c.if-not-found.false) in
+    let walked : (e : Equation c.args.s.rule c.args.row) → c.match_words-found.result ≡ match_of (pattern_words e.left) c.args.ws.now = λ e. rw (left_side e c.copy_from.ensures) at c.match_words-found.ensures in
+    let found : (s : Site c.args.ds.now c.args.term.now c.args.s.place c.args.ws.now) (e : Equation c.args.s.rule c.args.row) → Caughts _ e.rule s c.match_words-found.result = λ s e. found_in _ e.rule s (walked e) (not-false _ c.if-not-found.false) in
     λ s e.
     let f = found s e in
     let w = sym (c.is_met.ensures (held _ e.rule s f) e.condition (condition-is e) (condition-known _ e.rule s f)) ∙ c.if-not-is_met.true in
-    refuses _ (unmet _ _ _ _ _ _ _ c.before.before.if1.false c.if2.false f.trees f.matches w)
+    refuses _ (unmet _ _ _ _ _ _ _ c.if-s-ne0.false c.if-s-ne0-2.false f.trees f.matches w)
 
 pub slice_bounds-build_side-end : goal.slice_bounds-build_side-end
 slice_bounds-build_side-end c = omega (arith, sides-room c.requires.1)
 
 pub build_side-done-requires : goal.build_side-done-requires
 build_side-done-requires c =
-    let walked : (e : EquationOf c) → c.match_words-found.result ≡ match_of (pattern_words e.left) c.args.ws.now = λ e. rw (left_side e c.copy-from.ensures) at c.match_words-found.ensures in
-    let found : (s : SiteOf c) (e : EquationOf c) → Caughts _ e.rule s c.match_words-found.result = λ s e. found_in _ e.rule s (walked e) (not-false _ c.if-not-found.false) in
-    let right : let row = c.args.row in (e : EquationOf c) → take (row.b + row.c - row.b) (drop row.b c.copy-from.new.1.1.0) ≡ pattern_words e.right = λ e. right_side e c.copy-from.ensures in
+    let walked : (e : Equation c.args.s.rule c.args.row) → c.match_words-found.result ≡ match_of (pattern_words e.left) c.args.ws.now = λ e. rw (left_side e c.copy_from.ensures) at c.match_words-found.ensures in
+    let found : (s : Site c.args.ds.now c.args.term.now c.args.s.place c.args.ws.now) (e : Equation c.args.s.rule c.args.row) → Caughts _ e.rule s c.match_words-found.result = λ s e. found_in _ e.rule s (walked e) (not-false _ c.if-not-found.false) in
+    let right : let row = c.args.row in (e : Equation c.args.s.rule c.args.row) → take (row.b + row.c - row.b) (drop row.b c.copy_from.new.out) ≡ pattern_words e.right = λ e. right_side e c.copy_from.ensures in
     let pre = c.requires in
     let f = found pre.0 pre.1 in
     let side = right pre.1 in
@@ -66,13 +66,13 @@ build_side-done-requires c =
 
 pub returns : goal.returns
 returns c =
-    let walked : (e : EquationOf c) → c.match_words-found.result ≡ match_of (pattern_words e.left) c.args.ws.now = λ e. rw (left_side e c.copy-from.ensures) at c.match_words-found.ensures in
-    let found : (s : SiteOf c) (e : EquationOf c) → Caughts _ e.rule s c.match_words-found.result = λ s e. found_in _ e.rule s (walked e) (not-false _ c.if-not-found.false) in
-    let right : let row = c.args.row in (e : EquationOf c) → take (row.b + row.c - row.b) (drop row.b c.copy-from.new.1.1.0) ≡ pattern_words e.right = λ e. right_side e c.copy-from.ensures in
+    let walked : (e : Equation c.args.s.rule c.args.row) → c.match_words-found.result ≡ match_of (pattern_words e.left) c.args.ws.now = λ e. rw (left_side e c.copy_from.ensures) at c.match_words-found.ensures in
+    let found : (s : Site c.args.ds.now c.args.term.now c.args.s.place c.args.ws.now) (e : Equation c.args.s.rule c.args.row) → Caughts _ e.rule s c.match_words-found.result = λ s e. found_in _ e.rule s (walked e) (not-false _ c.if-not-found.false) in
+    let right : let row = c.args.row in (e : Equation c.args.s.rule c.args.row) → take (row.b + row.c - row.b) (drop row.b c.copy_from.new.out) ≡ pattern_words e.right = λ e. right_side e c.copy_from.ensures in
     λ s e.
     let f = found s e in
     let w = sym (c.is_met.ensures (held _ e.rule s f) e.condition (condition-is e) (condition-known _ e.rule s f)) ∙ c.if-not-is_met.false in
-    let q = equated _ e.condition e.left e.right _ _ _ c.before.before.if1.false c.if2.false f.trees f.matches w in
+    let q = equated _ e.condition e.left e.right _ _ _ c.if-s-ne0.false c.if-s-ne0-2.false f.trees f.matches w in
     let side = right e in
     writes _ _ q (few-fill _ (well _ e.rule s) f.trees f.formed e.right)
     (added_as (ap (pieces _ f.trees) side ∙ right-words _ f.trees e.right (right_made e)) (c.build_side-done.ensures (held _ e.rule s f) refl

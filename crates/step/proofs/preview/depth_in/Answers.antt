@@ -9,9 +9,6 @@ pub slice_bounds-part_at-end : goal.slice_bounds-part_at-end
 slice_bounds-part_at-end c =
     (both-there _ _ _ c.append-middle.ensures c.append-end.ensures c.requires).0
 
-pub slice_bounds-part_at-end-2 : goal.slice_bounds-part_at-end-2
-slice_bounds-part_at-end-2 c = sym (length-take-le _ _ (slice-reshare-prefix-part-at c))
-
 pub returns : goal.returns
 returns c =
     let both = both-there _ _ _ c.append-middle.ensures c.append-end.ensures c.requires in

@@ -56,14 +56,16 @@ slice_bounds-out-end c =
     room_out _ _ _ a _ _ _ (made_for _ _ _ a _ _ _ c.make-made.ensures) c.if-made-ne0.false
 
 pub slice_bounds-depth_of_both-end-2 : goal.slice_bounds-depth_of_both-end-2
-slice_bounds-depth_of_both-end-2 c = sym (length-take-le _ _ (array-share-prefix-out c))
+slice_bounds-depth_of_both-end-2 c =
+    let accepted : let a = c.args in (typingOf a.ds.now a.ws.now a.n).code ≡ 0 = sym (ap (λ (t : Typing). t.code) c.type_term-typing.ensures) ∙ c.if-typing-ne0.false in
+    sym (length-take-le _ _ (room_out _ _ _ accepted _ _ _ (made_for _ _ _ accepted _ _ _ c.make-made.ensures) c.if-made-ne0.false))
 
 pub depth_of_both-depth-requires : goal.depth_of_both-depth-requires
 depth_of_both-depth-requires c =
     let accepted : let a = c.args in (typingOf a.ds.now a.ws.now a.n).code ≡ 0 = sym (ap (λ (t : Typing). t.code) c.type_term-typing.ensures) ∙ c.if-typing-ne0.false in
     let a = accepted in
     let r = room _ _ _ a _ _ _ (made_for _ _ _ a _ _ _ c.make-made.ensures) c.if-made-ne0.false in
-    rw (length-take-le _ _ (array-share-prefix-out c), length-take-le c.args.s.place c.args.ws.now (omega (arith, r))) (omega (arith, r, slice-size _ _ _ a))
+    rw (length-take-le _ _ (room_out _ _ _ a _ _ _ (made_for _ _ _ a _ _ _ c.make-made.ensures) c.if-made-ne0.false), length-take-le c.args.s.place c.args.ws.now (omega (arith, r))) (omega (arith, r, slice-size _ _ _ a))
 
 pub overflow_add-place-2 : goal.overflow_add-place-2
 overflow_add-place-2 c =

@@ -21,35 +21,35 @@ returns-then-fault-ne0 c =
 
 pub take_from-went-requires : goal.take_from-went-requires
 take_from-went-requires c =
-    let no_fault : c.first-fault.result.code ≡ 0 = c.if-fault-ne0.false in
-    let begins : let args = c.args in let d = lent args.ds.now args.left.now args.n args.right.now args.m args.steps.now args.count in (S : Sort) × Begun d (start d) S = begun _ (sym (ap (λ (f : Fault). f.code) c.first-fault.ensures) ∙ no_fault) in
+    let no_fault : c.first_fault-fault.result.code ≡ 0 = c.if-fault-ne0.false in
+    let begins : let args = c.args in let d = lent args.ds.now args.left.now args.n args.right.now args.m args.steps.now args.count in (S : Sort) × Begun d (start d) S = begun _ (sym (ap (λ (f : Fault). f.code) c.first_fault-fault.ensures) ∙ no_fault) in
     let b = begins in
-    ((_, b.0, ready _ b.1 _ _ c.clear-from3.ensures c.clear-from4.ensures), refl, omega arith, b.1.order.few, b.1.order.inside)
+    ((_, b.0, ready _ b.1 _ _ c.clear_from-2.ensures c.clear_from-3.ensures), refl, omega arith, b.1.order.few, b.1.order.inside)
 
 pub returns-then-went-ne0 : goal.returns-then-went-ne0
 returns-then-went-ne0 c =
-    let no_fault : c.first-fault.result.code ≡ 0 = c.if-fault-ne0.false in
-    let begins : let args = c.args in let d = lent args.ds.now args.left.now args.n args.right.now args.m args.steps.now args.count in (S : Sort) × Begun d (start d) S = begun _ (sym (ap (λ (f : Fault). f.code) c.first-fault.ensures) ∙ no_fault) in
-    let told = c.take_from-went.ensures _ _ (ready _ begins.1 _ _ c.clear-from3.ensures c.clear-from4.ensures) in
-    stopped _ _ c.first-fault.ensures no_fault _ told.0 told.1 c.if-went-ne0.true
+    let no_fault : c.first_fault-fault.result.code ≡ 0 = c.if-fault-ne0.false in
+    let begins : let args = c.args in let d = lent args.ds.now args.left.now args.n args.right.now args.m args.steps.now args.count in (S : Sort) × Begun d (start d) S = begun _ (sym (ap (λ (f : Fault). f.code) c.first_fault-fault.ensures) ∙ no_fault) in
+    let told = c.take_from-went.ensures _ _ (ready _ begins.1 _ _ c.clear_from-2.ensures c.clear_from-3.ensures) in
+    stopped _ _ c.first_fault-fault.ensures no_fault _ told.0 told.1 c.if-went-ne0.true
 
 pub compare-requires : goal.compare-requires
 compare-requires c =
-    let no_fault : c.first-fault.result.code ≡ 0 = c.if-fault-ne0.false in
-    let begins : let args = c.args in let d = lent args.ds.now args.left.now args.n args.right.now args.m args.steps.now args.count in (S : Sort) × Begun d (start d) S = begun _ (sym (ap (λ (f : Fault). f.code) c.first-fault.ensures) ∙ no_fault) in
-    let told = c.take_from-went.ensures _ _ (ready _ begins.1 _ _ c.clear-from3.ensures c.clear-from4.ensures) in
+    let no_fault : c.first_fault-fault.result.code ≡ 0 = c.if-fault-ne0.false in
+    let begins : let args = c.args in let d = lent args.ds.now args.left.now args.n args.right.now args.m args.steps.now args.count in (S : Sort) × Begun d (start d) S = begun _ (sym (ap (λ (f : Fault). f.code) c.first_fault-fault.ensures) ∙ no_fault) in
+    let told = c.take_from-went.ensures _ _ (ready _ begins.1 _ _ c.clear_from-2.ensures c.clear_from-3.ensures) in
     ((its_term told.1.left).inside, (its_term told.1.right).inside)
 
 pub shape_of-left : goal.shape_of-left
 shape_of-left c =
-    let no_fault : c.first-fault.result.code ≡ 0 = c.if-fault-ne0.false in
-    let begins : let args = c.args in let d = lent args.ds.now args.left.now args.n args.right.now args.m args.steps.now args.count in (S : Sort) × Begun d (start d) S = begun _ (sym (ap (λ (f : Fault). f.code) c.first-fault.ensures) ∙ no_fault) in
-    let told = c.take_from-went.ensures _ _ (ready _ begins.1 _ _ c.clear-from3.ensures c.clear-from4.ensures) in
+    let no_fault : c.first_fault-fault.result.code ≡ 0 = c.if-fault-ne0.false in
+    let begins : let args = c.args in let d = lent args.ds.now args.left.now args.n args.right.now args.m args.steps.now args.count in (S : Sort) × Begun d (start d) S = begun _ (sym (ap (λ (f : Fault). f.code) c.first_fault-fault.ensures) ∙ no_fault) in
+    let told = c.take_from-went.ensures _ _ (ready _ begins.1 _ _ c.clear_from-2.ensures c.clear_from-3.ensures) in
     (its_term told.1.left).size ∙ sym begins.1.left_term.size
 
 pub returns : goal.returns
 returns c =
-    let no_fault : c.first-fault.result.code ≡ 0 = c.if-fault-ne0.false in
-    let begins : let args = c.args in let d = lent args.ds.now args.left.now args.n args.right.now args.m args.steps.now args.count in (S : Sort) × Begun d (start d) S = begun _ (sym (ap (λ (f : Fault). f.code) c.first-fault.ensures) ∙ no_fault) in
-    let told = c.take_from-went.ensures _ _ (ready _ begins.1 _ _ c.clear-from3.ensures c.clear-from4.ensures) in
-    ended _ _ c.first-fault.ensures no_fault _ told.0 told.1 c.if-went-ne0.false _ c.compare.ensures
+    let no_fault : c.first_fault-fault.result.code ≡ 0 = c.if-fault-ne0.false in
+    let begins : let args = c.args in let d = lent args.ds.now args.left.now args.n args.right.now args.m args.steps.now args.count in (S : Sort) × Begun d (start d) S = begun _ (sym (ap (λ (f : Fault). f.code) c.first_fault-fault.ensures) ∙ no_fault) in
+    let told = c.take_from-went.ensures _ _ (ready _ begins.1 _ _ c.clear_from-2.ensures c.clear_from-3.ensures) in
+    ended _ _ c.first_fault-fault.ensures no_fault _ told.0 told.1 c.if-went-ne0.false _ c.compare.ensures

@@ -5,8 +5,5 @@ use lib.Seq.{length-take-le}
 use Rattle.step.proofs.Putting.{clear_words}
 use Rattle.step.proofs.stepping.clear_behind.Goals as goal
 
-pub slice_bounds-clear_from-end-2 : goal.slice_bounds-clear_from-end-2
-slice_bounds-clear_from-end-2 c = sym (length-take-le _ _ (slice-relend-prefix-clear-from c))
-
 pub returns : goal.returns
 returns c = let pre = c.requires in clear_words _ _ pre.1 pre.2 _ pre.0 _ c.clear_from.ensures

@@ -1,7 +1,7 @@
 -- The rule, then the words, then the place, then the part that is there, then the level tell.
 use mathlib.Core.Path.{◌≡◌, sym}
 use mathlib.Core.Bool.{false}
-use Prim.Native.Nat.{◌+◌, ◌≤◌}
+use Prim.Native.Nat.{ℕ, ◌+◌, ◌≤◌}
 use native.Mathlib.Omega.{arith}
 use borrow.Author.Tests.{le-ltb, not-true, not-false}
 use lib.Dec.{ltb}
@@ -10,32 +10,31 @@ use Rattle.term.specs.Terms.{level_at}
 use Rattle.step.proofs.Limits.{part-shallow, seat_below, seat_fits, seat_flat}
 use borrow.Author.Rules.{rules}
 use Rattle.step.proofs.stepping.is_too_deep.Goals as goal
-use Rattle.step.proofs.stepping.is_too_deep.Goals.{Start}
 
 -- a part that fits is not too deep
-fits : (c : Start) → let n = level_at c.args.term.now c.args.place + part_depth c.args.part.now 0 in n ≤ 64 → false ≡ ltb 64 n
-fits c h = sym (le-ltb 64 (level_at c.args.term.now c.args.place + part_depth c.args.part.now 0) h)
+fits : (level depth : ℕ) → level + depth ≤ 64 → false ≡ ltb 64 (level + depth)
+fits level depth h = sym (le-ltb 64 (level + depth) h)
 
 pub returns-then-not-deepens : goal.returns-then-not-deepens
-returns-then-not-deepens c = fits c.before.before.before (seat_flat c.requires.0 c.if-not-deepens.true)
+returns-then-not-deepens c = fits (level_at c.args.term.now c.args.place) (part_depth c.args.part.now 0) (seat_flat c.requires.0 c.if-not-deepens.true)
 
 pub returns-then-place-part-le64 : goal.returns-then-place-part-le64
-returns-then-place-part-le64 c = fits c.before.before.before.before (omega (arith, seat_below c.requires.0, part-shallow c.args.part.now))
+returns-then-place-part-le64 c = fits (level_at c.args.term.now c.args.place) (part_depth c.args.part.now 0) (omega (arith, seat_below c.requires.0, part-shallow c.args.part.now))
 
 pub returns-then-part-old : goal.returns-then-part-old
 returns-then-part-old c =
-    fits c.before.before.before.before.before (omega (arith, seat_fits c.requires.0 c.if-not-deepens.false, part-shallow c.args.part.now))
+    fits (level_at c.args.term.now c.args.place) (part_depth c.args.part.now 0) (omega (arith, seat_fits c.requires.0 c.if-not-deepens.false, part-shallow c.args.part.now))
 
 pub overflow_add-place-2 : goal.overflow_add-place-2
 overflow_add-place-2 c = omega (arith, c.part_at-whole.ensures.depth, part-shallow c.args.part.now, c.requires)
 
 pub returns-then-place-deep-le64 : goal.returns-then-place-deep-le64
-returns-then-place-deep-le64 c = fits c.before.before.before.before.before.before.before.before (omega (arith, seat_below c.requires.0, c.part_at-whole.ensures.depth))
+returns-then-place-deep-le64 c = fits (level_at c.args.term.now c.args.place) (part_depth c.args.part.now 0) (omega (arith, seat_below c.requires.0, c.part_at-whole.ensures.depth))
 
 pub returns-then-deep-old : goal.returns-then-deep-old
 returns-then-deep-old c =
     let deep = c.if-not-deepens.false in
-    fits c.before.before.before.before.before.before.before.before.before (omega (arith, seat_fits c.requires.0 deep, c.part_at-whole.ensures.depth, c.if-deep-old.true))
+    fits (level_at c.args.term.now c.args.place) (part_depth c.args.part.now 0) (omega (arith, seat_fits c.requires.0 deep, c.part_at-whole.ensures.depth, c.if-deep-old.true))
 
 pub overflow_add-result : goal.overflow_add-result
 overflow_add-result c =

@@ -10,7 +10,7 @@ pub slice_bounds-make-end : goal.slice_bounds-make-end
 slice_bounds-make-end c = inside-slice _ _ _ c.requires.0
 
 pub slice_bounds-make-end-2 : goal.slice_bounds-make-end-2
-slice_bounds-make-end-2 c = sym (length-take-le _ _ (slice-reshare-prefix-make c))
+slice_bounds-make-end-2 c = sym (length-take-le _ _ (inside-slice _ _ _ c.requires.0))
 
 pub make-result-requires : goal.make-result-requires
 make-result-requires c = let pre = c.requires in (termed _ _ _ pre.0, pre.2)
@@ -26,13 +26,15 @@ slice_bounds-put-end c =
     room_out _ _ _ a _ _ _ (made_for _ _ _ a _ _ _ c.make-result.ensures) c.if-result-ne0.false
 
 pub slice_bounds-put-end-2 : goal.slice_bounds-put-end-2
-slice_bounds-put-end-2 c = sym (length-take-le _ _ (slice-reshare-prefix-put c))
+slice_bounds-put-end-2 c =
+    let a = c.requires.0 in
+    sym (length-take-le _ _ (room_out _ _ _ a _ _ _ (made_for _ _ _ a _ _ _ c.make-result.ensures) c.if-result-ne0.false))
 
 pub put-requires : goal.put-requires
 put-requires c =
     let pre = c.requires in
     let l = room _ _ _ pre.0 _ _ _ (made_for _ _ _ pre.0 _ _ _ c.make-result.ensures) c.if-result-ne0.false in
-    (rw (length-take-le _ _ (slice-reshare-prefix-put c)) l, inside-slice _ _ _ pre.0, pre.1)
+    (rw (length-take-le _ _ (room_out _ _ _ pre.0 _ _ _ (made_for _ _ _ pre.0 _ _ _ c.make-result.ensures) c.if-result-ne0.false)) l, inside-slice _ _ _ pre.0, pre.1)
 
 pub overflow_add-result : goal.overflow_add-result
 overflow_add-result c =
