@@ -107,9 +107,9 @@ all-bases : {ds : List ℕ} {N b v : ℕ} {Γ : Context} (bs : List (List ℕ)) 
     (record { types = Γ.types; bases = Γ.bases ++ map (λ i. tree_in (parse i)) bs; variables = Γ.variables; marks = Γ.marks; bound = Γ.bound })
 unfolding put_bases all_indices
 all-bases {Γ} [] s h e = same_names s (omega arith) refl (rw append-nil)
-all-bases {N} {Γ} (i ∷ bs) s h e =
+all-bases {ds = ds} {N = N} {b = b} {v = v} {Γ = Γ} (i ∷ bs) s h e =
     let p = (and-eq-true_iff (is_index N i) _).0 e in
-    same_names (all-bases bs (one_basis i s (omega arith) p.0) (omega arith) p.1) (omega arith) refl (rw append_assoc)
+    same_names (all-bases {ds = basis_put ds i} {N = N} {b = b + 1} {v = v} {Γ = with_basis Γ (tree_in (parse i))} bs (one_basis i s (omega arith) p.0) (omega arith) p.1) (omega arith) refl (rw append_assoc)
 
 all-variables : {ds : List ℕ} {N b v : ℕ} {Γ : Context} (xs : List Variable) → Stands ds N b v Γ → v + length xs ≤ max_names → all_variables N xs ≡ true
     → Stands (put_variables ds xs) N b (v + length xs)
@@ -122,9 +122,9 @@ all-variables : {ds : List ℕ} {N b v : ℕ} {Γ : Context} (xs : List Variable
     })
 unfolding put_variables all_variables
 all-variables {Γ} [] s h e = same_names s refl (omega arith) (rw (append-nil Γ.variables, append-nil Γ.marks))
-all-variables {N} {Γ} (x ∷ xs) s h e =
+all-variables {ds = ds} {N = N} {b = b} {v = v} {Γ = Γ} (x ∷ xs) s h e =
     let p = (and-eq-true_iff (fits N x) _).0 e in
-    same_names (all-variables xs (one_variable x s (omega arith) p.0) (omega arith) p.1) refl (omega arith) (rw (append_assoc Γ.variables, append_assoc Γ.marks))
+    same_names (all-variables {ds = variable_put ds x.kind x.first x.second} {N = N} {b = b} {v = v + 1} {Γ = with_variable Γ (type_in x.kind (tree_in (parse x.first)) (tree_in (parse x.second))) (marked x.kind)} xs (one_variable x s (omega arith) p.0) (omega arith) p.1) refl (omega arith) (rw (append_assoc Γ.variables, append_assoc Γ.marks))
 
 -- ---- the declarations of a file whose names are in order
 pub record Declared (ds : List ℕ) (f : File) : Type 0 where
