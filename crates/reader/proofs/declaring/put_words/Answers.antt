@@ -9,12 +9,12 @@ use borrow.Author.Rules.{rules}
 use Rattle.reader.proofs.declaring.put_words.Goals as goal
 
 pub returns-then-kind-eq9 : goal.returns-then-kind-eq9
-returns-then-kind-eq9 c = let put = c.put_basis.ensures in basis_words_put c.if-kind-eq9.true put.0 put.1
+returns-then-kind-eq9 c = let put = c.put_basis.ensures in basis_words_put c.if-kind-eq9.true put.value put.ds_after
 
 pub returns-then-kind-ge4 : goal.returns-then-kind-ge4
 returns-then-kind-ge4 c =
     let put = c.put_variable.ensures in
-    marked-words-put _ c.if-kind-eq9.false c.if-kind-ge4.true put.0 put.1
+    marked-words-put _ c.if-kind-eq9.false c.if-kind-ge4.true put.value put.ds_after
 
 pub slice_bounds-put_variable-end : goal.slice_bounds-put_variable-end
 slice_bounds-put_variable-end c =
@@ -39,4 +39,4 @@ slice_bounds-put_variable-start c =
 pub returns : goal.returns
 returns c =
     let put = c.put_variable-2.ensures in
-    variable_words_put _ c.if-kind-eq9.false c.if-kind-ge4.false c.first_length-n.ensures put.0 put.1
+    variable_words_put _ c.if-kind-eq9.false c.if-kind-ge4.false c.first_length-n.ensures put.value put.ds_after

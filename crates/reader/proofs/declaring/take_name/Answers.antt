@@ -31,7 +31,7 @@ returns-in_default c =
 
 pub returns-then-n-gt126 : goal.returns-then-n-gt126
 returns-then-n-gt126 c =
-    let worded : (ws : List ℕ) × (Read c ≡ some ws) × (c.in-Count.n ≡ length ws) = some_words _ _ (sym c.read_words.ensures.answer ∙ c.in-Count.is) in
+    let worded : (ws : List ℕ) × (words_in c.named_kind-kind.result c.args.text.now ≡ some ws) × (c.in-Count.n ≡ length ws) = some_words _ _ (sym c.read_words.ensures.answer ∙ c.in-Count.is) in
     let pre = c.requires in
     let w = worded in
     let z = w.2 in (
@@ -42,12 +42,12 @@ returns-then-n-gt126 c =
 
 pub slice_bounds-put_words-end : goal.slice_bounds-put_words-end
 slice_bounds-put_words-end c =
-    let long : length c.read_words.new.1.1.0 ≡ 126 = c.read_words.ensures.size in
+    let long : length c.read_words.new.out ≡ 126 = c.read_words.ensures.size in
     let l = long in sym (length-take-le _ _ (omega arith))
 
 pub returns : goal.returns
 returns c =
-    let worded : (ws : List ℕ) × (Read c ≡ some ws) × (c.in-Count.n ≡ length ws) = some_words _ _ (sym c.read_words.ensures.answer ∙ c.in-Count.is) in
+    let worded : (ws : List ℕ) × (words_in c.named_kind-kind.result c.args.text.now ≡ some ws) × (c.in-Count.n ≡ length ws) = some_words _ _ (sym c.read_words.ensures.answer ∙ c.in-Count.is) in
     let pre = c.requires in
     let w = worded in
     let few : c.in-Count.n ≤ 126 = c.if-n-gt126.false in (

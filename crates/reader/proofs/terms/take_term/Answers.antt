@@ -11,7 +11,7 @@ use Rattle.reader.proofs.terms.take_term.Goals as goal
 
 pub returns-in_default : goal.returns-in_default
 returns-in_default c =
-    let kept : length c.read_tokens.new.1.0 ≡ length c.args.out.now = ap length c.read_tokens.ensures.1 ∙ stored-size _ _ _ ∙ ap length c.clear_from.ensures ∙ length-cleared _ _ in
+    let kept : length c.read_tokens.new.out ≡ length c.args.out.now = ap length c.read_tokens.ensures.1 ∙ stored-size _ _ _ ∙ ap length c.clear_from.ensures ∙ length-cleared _ _ in
     (
   kept,
   λ f s e. no_tokens_placed f _ (no_tokens _ (sym c.read_tokens.ensures.0 ∙ c.in_default.is))
@@ -20,7 +20,7 @@ returns-in_default c =
 
 pub returns-then-not-is_term : goal.returns-then-not-is_term
 returns-then-not-is_term c =
-    let kept : length c.read_tokens.new.1.0 ≡ length c.args.out.now = ap length c.read_tokens.ensures.1 ∙ stored-size _ _ _ ∙ ap length c.clear_from.ensures ∙ length-cleared _ _ in
+    let kept : length c.read_tokens.new.out ≡ length c.args.out.now = ap length c.read_tokens.ensures.1 ∙ stored-size _ _ _ ∙ ap length c.clear_from.ensures ∙ length-cleared _ _ in
     let w = some_words _ _ (sym c.read_tokens.ensures.0 ∙ c.in-Count.is) in
     let told = rw c.clear_from.ensures at c.read_tokens.ensures.1 in
     let test = sym c.is_term.ensures ∙ c.if-not-is_term.true in (
@@ -31,7 +31,7 @@ returns-then-not-is_term c =
 
 pub returns : goal.returns
 returns c =
-    let kept : length c.read_tokens.new.1.0 ≡ length c.args.out.now = ap length c.read_tokens.ensures.1 ∙ stored-size _ _ _ ∙ ap length c.clear_from.ensures ∙ length-cleared _ _ in
+    let kept : length c.read_tokens.new.out ≡ length c.args.out.now = ap length c.read_tokens.ensures.1 ∙ stored-size _ _ _ ∙ ap length c.clear_from.ensures ∙ length-cleared _ _ in
     let w = some_words _ _ (sym c.read_tokens.ensures.0 ∙ c.in-Count.is) in
     let told = rw c.clear_from.ensures at c.read_tokens.ensures.1 in
     let test = sym c.is_term.ensures ∙ c.if-not-is_term.false in (
