@@ -23,12 +23,10 @@ build() {
         exit 2
     fi
     echo "page.sh: proving the library; the first time this takes minutes" >&2
-    if ! (cd "$root" && rt staticlib library) >&2; then
+    if ! "$root/build.sh" library; then
         echo "page.sh: the library was not proved (see above), so nothing is shown" >&2
         exit 2
     fi
-    # rt leaves a library alone that has not changed: this one is up to date, and should look it.
-    touch "$archive"
 }
 
 if is_stale; then build; fi

@@ -16,31 +16,17 @@ is_stale() {
     [ ! -x "$program" ] || [ -n "$(find "$root/crates" "$root/crates.txt" -newer "$program" | head -n 1)" ]
 }
 
-# Proves the replay and builds it. A line for each crate goes to standard error, and all that rt said where something failed.
+# Proves the replay and builds it; what rt says goes to standard error.
 build() {
     if ! command -v rt > /dev/null; then
         echo "replay.sh: to prove and build the replay, the Rattle toolchain is needed: the command rt, on the PATH" >&2
         exit 2
     fi
     echo "replay.sh: proving the replay; the first time this takes minutes" >&2
-    said=$(mktemp)
-    status=$(mktemp)
-    (cd "$root" && { rt check replay 2>&1; echo $? > "$status"; }) | tee "$said" | while IFS= read -r line; do
-        case $line in 'rt: '*) echo "  ${line#rt: }" >&2 ;; esac
-    done
-    if [ "$(cat "$status")" != 0 ]; then
-        cat "$said" >&2
-        rm -f "$said" "$status"
+    if ! "$root/build.sh" replay; then
         echo "replay.sh: the replay was not proved (see above), so no file was replayed" >&2
         exit 2
     fi
-    rm -f "$said" "$status"
-    if [ ! -x "$program" ]; then
-        echo "replay.sh: all is proved, but the program is gone; remove the folder target and call again" >&2
-        exit 2
-    fi
-    # rt leaves a program alone that has not changed: this one is up to date, and should look it.
-    touch "$program"
 }
 
 # --- the rules by number, as document 01 and its change requests list them ---

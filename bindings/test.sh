@@ -3,7 +3,7 @@
 # asks which rules fit where, which must print the one step that the scope's derivation can begin with.
 set -euo pipefail
 cd "$(dirname "$0")/.."
-[ -f target/staticlib/liblibrary.a ] || rt staticlib library
+[ -f target/staticlib/liblibrary.a ] || ./build.sh library
 out=$(mktemp -d)
 trap 'rm -r "$out"' EXIT
 for example in session editor; do

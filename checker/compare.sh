@@ -7,7 +7,7 @@ seed=${2:-1}
 count=${3:-10000}
 program=target/bin/cases
 if [ ! -x "$program" ]; then
-    echo "no $program: run 'rt check cases' first" >&2
+    echo "no $program: run './build.sh cases' first" >&2
     exit 1
 fi
 (cd checker && cargo build --release --offline --quiet)

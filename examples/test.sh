@@ -1,18 +1,18 @@
 #!/bin/sh
-# Replays every example with the proved program, which must have been built before (rt check replay): an
+# Replays every example with the proved program, which must have been built before (./build.sh replay): an
 # example must be accepted, a damaged one must have exactly the six lines that are stored beside it. And the
 # two sides, the steps and the end in the text beside an example must be what the command page writes of it, from
-# the proved library, which must have been built too (rt staticlib library).
+# the proved library, which must have been built too (./build.sh library).
 # The last line is 'N passed, M failed'.
 set -u
 cd "$(dirname "$0")/.." || exit 2
 program=target/bin/replay
 if [ ! -x "$program" ]; then
-    echo "examples/test.sh: $program is missing; build it with: rt check replay" >&2
+    echo "examples/test.sh: $program is missing; build it with: ./build.sh replay" >&2
     exit 2
 fi
 if [ ! -f target/staticlib/liblibrary.a ]; then
-    echo "examples/test.sh: target/staticlib/liblibrary.a is missing; build it with: rt staticlib library" >&2
+    echo "examples/test.sh: target/staticlib/liblibrary.a is missing; build it with: ./build.sh library" >&2
     exit 2
 fi
 cargo build --release --offline --quiet --manifest-path bindings/rust/Cargo.toml --target-dir bindings/rust/target --bin page || exit 2

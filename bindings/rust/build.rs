@@ -7,7 +7,7 @@ fn main() {
     let archive = folder.join("liblibrary.a");
     println!("cargo:rerun-if-changed={}", archive.display());
     if !archive.is_file() {
-        panic!("{} is missing: run `rt staticlib library` in the root of the repository, which proves and writes it", archive.display());
+        panic!("{} is missing: run `./build.sh library` in the root of the repository, which proves and writes it", archive.display());
     }
     println!("cargo:rustc-link-search=native={}", folder.display());
     println!("cargo:rustc-link-lib=static=library");

@@ -5,7 +5,7 @@ use native.Mathlib.Nat.{one-mul, mod-eq_of_lt}
 use native.Mathlib.Omega.{arith}
 use Rattle.algebra.specs.Semirings.{Arithmetic, StarSemiring}
 use Rattle.algebra.specs.Sums.{sum}
-use Rattle.algebra.specs.Matrices.{Matrix, ◌≈◌, number, zeros, identity, scalar, add, scale, mul, adjoint, kronecker}
+use Rattle.algebra.specs.Matrices.{Matrix, ◌≈◌, number, zeros, identity, scalar, scale, mul, adjoint, kronecker}
 use Rattle.algebra.proofs.Semirings as S
 use Rattle.algebra.proofs.Deltas.{delta_same}
 use Rattle.algebra.proofs.Alike.{≈-refl, ≈-sym, ≈-trans, everywhere, mul-≈}

@@ -1,5 +1,6 @@
 // Declarations as a caller lends them: one slice of words of fixed layout.
 #![tactic(auto)]
+
 pub mod constructor;
 
 ghost use Rattle.std.specs.Prelude.{◌≡◌, cond, ◌&&◌, ◌+◌, ◌≤◌, ◌<◌, eqb, leb, length, take, drop, get_or};

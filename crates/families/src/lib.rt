@@ -1,5 +1,6 @@
 // The rules that are no equation: a function for each family of them. The entry finds the family by the rule's number, and relies on nothing: the words may be any.
 #![tactic(auto)]
+
 mod chains;
 mod children;
 mod collecting;

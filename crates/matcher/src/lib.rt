@@ -1,6 +1,7 @@
 // The words of a rule's left side against the words of a term from a place on, with any words behind. Each child is a further part of these words, and nothing is
 // relied on: either may be any words.
 #![tactic(auto)]
+
 ghost use Rattle.std.specs.Prelude.{◌≡◌, ◌<◌, drop};
 ghost use Rattle.matcher.specs.Matching.{Standing, began, stopped, passed, taken, hole_matched, word_matched, match_of};
 

@@ -1,5 +1,6 @@
 // The table of rules as the code holds it. `rules` Table is the same table to be read; a computed test holds the two together.
 #![tactic(auto)]
+
 mod equations;
 
 ghost use Rattle.std.specs.Prelude.{◌≡◌, ◌/◌, drop};

@@ -3,7 +3,6 @@ use mathlib.Core.Path.{◌≡◌, refl}
 use Prim.Native.Nat.{ℕ, ◌*◌}
 use Rattle.algebra.specs.Semirings.{Arithmetic, StarSemiring}
 use Rattle.algebra.specs.Matrices.{Matrix, ◌≈◌, HasShape, number, scalar, add, scale, mul, adjoint, kronecker}
-use Rattle.algebra.proofs.Semirings.{add-mul}
 use Rattle.algebra.proofs.Alike.{≈-refl, ≡→≈, number-≈, everywhere, scale-≈, mul-≈, adjoint-≈, kronecker-≈}
 use Rattle.algebra.proofs.Shapes.{same_rows, same-columns, conformable, shape-scalar, shape-scale, shape-mul, shape-adjoint, shape-kronecker}
 use Rattle.algebra.proofs.Linear as Linear

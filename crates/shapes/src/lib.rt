@@ -1,6 +1,7 @@
 // What is read off the words of a typed part: its class, and the two indices of its type. The heads and the typing rules say where each is, and nothing is tested on
 // the way. Every function answers whatever the words are.
 #![tactic(auto)]
+
 ghost use Rattle.std.specs.Prelude.{◌≡◌, cond, ◌<◌, ◌+◌, ◌%◌, eqb, length, get_or};
 ghost use Rattle.words.specs.Words.{Added};
 ghost use Rattle.term.specs.Heads.{result_of};

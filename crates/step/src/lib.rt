@@ -1,4 +1,5 @@
 #![tactic(auto)]
+
 mod building;
 mod equations;
 pub mod preview;

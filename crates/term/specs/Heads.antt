@@ -1,7 +1,6 @@
 -- The table of heads, and what a single word says.
 use Rattle.std.specs.Prelude.{cond, List, [], ◌∷◌, ℕ, ◌+◌, ◌*◌, ◌/◌, ◌%◌, eqb, length, get_or}
 use Rattle.term.specs.declared.heads.Arity.{Arity}
-use Rattle.term.specs.declared.heads.Arity.TheVariants as Arity
 use Rattle.term.specs.declared.heads.Class.{Class}
 use Rattle.term.specs.declared.heads.Class.TheVariants.{Nothing, Index, Basis, Scalar, Ket, Bra, Operator, Array, Term}
 

@@ -1,4 +1,5 @@
 #![tactic(auto)]
+
 mod ahead;
 pub mod heads;
 pub mod parts;

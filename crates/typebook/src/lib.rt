@@ -1,5 +1,6 @@
 // The typing rules as data, a line a head, and the classes that they want and give.
 #![tactic(auto)]
+
 ghost use Rattle.std.specs.Prelude.{◌≡◌};
 ghost use Rattle.typebook.specs.Code.Shapes.{number_of, fitting};
 ghost use Rattle.typebook.specs.Code.Lines.{rule_at, is_sum, fitted, turned, class_by};

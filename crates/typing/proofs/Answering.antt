@@ -14,7 +14,7 @@ use Rattle.words.specs.Words.{overlaid}
 use Rattle.term.specs.declared.terms.Names.{Names}
 use Rattle.term.specs.Parts.{parse, tree_in, first, first_depth, part, part_depth}
 use Rattle.term.specs.Terms.{max_words, max_depth, IsTerm, is_term}
-use Rattle.term.specs.Trees.{Tree, none, ◌▹◌, words, depth}
+use Rattle.term.specs.Trees.{Tree, none, ◌▹◌, words}
 use Rattle.term.proofs.Parsing.{parse-tree, some_words}
 use Rattle.term.proofs.TermTest.{term-tree}
 use Rattle.typing.specs.declared.sorts.Sorted as S

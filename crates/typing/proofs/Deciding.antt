@@ -12,7 +12,6 @@ use Rattle.words.specs.Words.{overlaid}
 use Rattle.term.specs.declared.terms.Names.{Names}
 use Rattle.term.specs.Parts.{parse, tree_in, part_depth}
 use Rattle.term.specs.Terms.{max_words, max_depth, all_declared, term_words, is_term}
-use Rattle.term.specs.Trees.{depth}
 use Rattle.term.proofs.Scan.{part_length}
 use Rattle.term.proofs.TermTest.{term_in, term-end, term-names}
 use Rattle.declarations.specs.Declarations.{context_in, names_in, good_declarations}

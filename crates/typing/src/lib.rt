@@ -1,4 +1,5 @@
 #![tactic(auto)]
+
 mod bodies;
 mod gathering;
 mod infer;

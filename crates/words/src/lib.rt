@@ -1,5 +1,6 @@
 // Runs of words as such: clearing, copying and comparing them.
 #![tactic(auto)]
+
 ghost use Rattle.std.specs.Prelude.{◌≡◌, ◌&&◌, [], ◌∷◌, ◌+◌, ◌-◌, min, eqb, length, take, drop, get_or};
 ghost use Rattle.words.specs.Words.{cleared, overlaid, agreeing, same_words, laid};
 

@@ -4,7 +4,6 @@ use mathlib.Core.Bool.{and-true}
 use borrow.Author.Tests.{eq-eqb, ne_eqb}
 use Rattle.declarations.specs.Declarations.{is_variable, good_basis, good_variable}
 use Rattle.declarations.specs.Code.Entries.{good_entry}
-use borrow.Author.Rules.{rules}
 use Rattle.declarations.proofs.entry_is_good.Goals as goal
 
 pub returns-then-k-eq1 : goal.returns-then-k-eq1

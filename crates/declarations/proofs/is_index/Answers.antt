@@ -6,7 +6,6 @@ use lib.ListN.{length}
 use Rattle.term.specs.Parts.{part}
 use Rattle.declarations.specs.Declarations.{is_index}
 use Rattle.declarations.proofs.Entries.{one_index}
-use borrow.Author.Rules.{rules}
 use Rattle.declarations.proofs.is_index.Goals as goal
 
 pub returns-then-ws-eq0 : goal.returns-then-ws-eq0

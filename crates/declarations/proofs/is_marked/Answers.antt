@@ -1,7 +1,6 @@
 -- Test by test, as in the definition.
 use borrow.Author.Tests.{eq-eqb, ne_eqb, lt-ltb, le-ltb}
 use Rattle.declarations.specs.Declarations.{mark_in, marked_word}
-use borrow.Author.Rules.{rules}
 use Rattle.declarations.proofs.is_marked.Goals as goal
 
 pub returns-then-word-ne26 : goal.returns-then-word-ne26

@@ -1,7 +1,5 @@
 -- Each answer is the first condition of the definition that fails, or the last one.
 use mathlib.Core.Path.{sym, ◌∙◌}
-use borrow.Author.Tests.{not-true, not-false}
-use borrow.Author.Rules.{rules}
 use Rattle.declarations.specs.Declarations.{is_variable}
 use Rattle.declarations.proofs.Entries.{turned}
 use Rattle.declarations.proofs.is_variable.Goals as goal

@@ -1,5 +1,4 @@
 -- The flag picks the test, as in the definition.
-use borrow.Author.Rules.{rules}
 use Rattle.declarations.proofs.is_wanted.Goals as goal
 
 pub returns-then-absent : goal.returns-then-absent

@@ -1,7 +1,6 @@
 -- The size picks the case, as in the definition.
 use native.Mathlib.Omega.{arith}
 use borrow.Author.Tests.{eq-eqb, ne_eqb}
-use borrow.Author.Rules.{rules}
 use Rattle.declarations.specs.Declarations.{names_in}
 use Rattle.declarations.proofs.names_of.Goals as goal
 

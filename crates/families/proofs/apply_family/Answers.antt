@@ -1,5 +1,4 @@
 -- The family is the one that the row numbers.
-use borrow.Author.Rules.{rules}
 use Rattle.families.proofs.Lines.{numbered}
 use Rattle.families.proofs.Dispatched.{removes, absorbs, merges, swaps, distributes}
 use Rattle.families.proofs.apply_family.Goals as goal

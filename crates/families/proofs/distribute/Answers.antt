@@ -1,5 +1,4 @@
 -- One of the two spreadings, or none where an index is used.
-use borrow.Author.Rules.{rules}
 use Rattle.families.proofs.Written.{refuses}
 use Rattle.families.proofs.Distributed.{unusable, distributes-first, distributes-second}
 use Rattle.families.proofs.distribute.Goals as goal

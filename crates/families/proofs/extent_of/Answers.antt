@@ -1,7 +1,6 @@
 -- A lookup, or the end alone.
 use mathlib.Core.Path.{ap}
 use native.Mathlib.Omega.{arith}
-use borrow.Author.Rules.{rules}
 use lib.ListN.{length}
 use Rattle.families.proofs.extent_of.Goals as goal
 

@@ -2,7 +2,6 @@
 use mathlib.Core.Path.{refl}
 use mathlib.Core.Logic.{◌≢◌}
 use native.Mathlib.Omega.{arith}
-use borrow.Author.Rules.{rules}
 use Rattle.term.specs.Parts.{Whole}
 use Rattle.families.proofs.Dispatched.{collects}
 use Rattle.families.proofs.Lines.{numbered, Ruled, ruled}

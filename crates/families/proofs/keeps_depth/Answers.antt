@@ -1,5 +1,4 @@
 -- By the family of the row.
-use borrow.Author.Rules.{rules}
 use Rattle.families.proofs.Depths.{row_keeps}
 use Rattle.families.proofs.keeps_depth.Goals as goal
 

@@ -1,6 +1,5 @@
 -- The part is looked up once, and what is asked of it goes by the rule's family.
 use mathlib.Core.Path.{sym, ◌∙◌}
-use borrow.Author.Rules.{rules}
 use lib.Seq.{length-take-le}
 use Rattle.families.proofs.Depths.{row-deepens}
 use Rattle.families.proofs.Theorems.{own, own_size, own_whole, own_family}

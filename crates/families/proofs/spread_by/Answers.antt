@@ -1,5 +1,4 @@
 -- The child is the one that the row names.
-use borrow.Author.Rules.{rules}
 use Rattle.families.proofs.Written.{refuses}
 use Rattle.families.proofs.Dispatched.{spreads-any, spreads-none, spreads-fixed, result-small}
 use Rattle.families.proofs.spread_by.Goals as goal

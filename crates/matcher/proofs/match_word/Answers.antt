@@ -1,7 +1,6 @@
 -- A hole is left to its function; any other word is a case of the definition.
 use mathlib.Core.Path.{sym, ◌∙◌}
 use native.Mathlib.Omega.{arith}
-use borrow.Author.Rules.{rules}
 use Rattle.words.proofs.Runs.{to_end}
 use Rattle.matcher.proofs.Walks.{here_word, at-hole, word-past, word_differs, word_same}
 use Rattle.matcher.proofs.match_word.Goals as goal

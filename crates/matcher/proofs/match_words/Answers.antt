@@ -1,10 +1,6 @@
-use Prim.Native.Nat.{◌-◌, ◌≤◌}
 use native.Mathlib.Omega.{arith}
-use borrow.Author.Rules.{rules}
 use borrow.Author.Tests.{not-true, not-false}
-use lib.ListN.{length}
-use Rattle.matcher.proofs.Walks.{Asked, asked-first, asked_last, asked-more, asked-stops, standing_begun, standing_next}
-use Rattle.matcher.specs.Matching.{Standing}
+use Rattle.matcher.proofs.Walks.{asked-first, asked_last, asked-more, asked-stops, standing_begun, standing_next}
 use Rattle.matcher.proofs.match_words.Goals as goal
 
 pub loop-k-init : goal.loop-k-init

@@ -1,10 +1,7 @@
 -- The invariant: to match all the words is to match those from `k` on, from where the walk stands. The measure is how many are left.
 use Prim.Native.Nat.{◌-◌, ◌≤◌}
-use native.Mathlib.Omega.{arith}
-use borrow.Author.Rules.{rules}
-use borrow.Author.Tests.{not-true, not-false}
 use lib.ListN.{length}
-use Rattle.matcher.proofs.Walks.{Asked, asked-first, asked_last, asked-more, asked-stops, standing_begun, standing_next}
+use Rattle.matcher.proofs.Walks.{Asked}
 use Rattle.matcher.specs.Matching.{Standing}
 use Rattle.matcher.proofs.match_words.Given as goal
 

@@ -1,6 +1,5 @@
 -- What is left of the words is copied; past them there is nothing to copy.
 use mathlib.Core.Path.{◌∙◌, ap}
-use borrow.Author.Rules.{rules}
 use Rattle.words.specs.Words.{overlaid}
 use Rattle.words.proofs.Runs.{to_end}
 use Rattle.rulebook.proofs.Copied.{none_left}

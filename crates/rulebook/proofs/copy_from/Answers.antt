@@ -1,6 +1,5 @@
 -- The code's words are the definition's, computed for each of the four groups, and no rule is in a group past them.
 use native.Mathlib.Omega.{arith}
-use borrow.Author.Rules.{rules}
 use Rattle.term.specs.Heads.{word}
 use Rattle.rulebook.specs.Code.Rows.{words_of, grouped, lines_in, words_in}
 use Rattle.rulebook.proofs.Copied.{laid_in, laid-past}

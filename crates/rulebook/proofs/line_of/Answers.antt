@@ -1,6 +1,5 @@
 -- The code's lines are the definition's, computed for all 192 numbers, and no rule has a number past them.
 use mathlib.Core.Path.{sym}
-use borrow.Author.Rules.{rules}
 use Rattle.words.specs.Listed.{up_to}
 use Rattle.words.proofs.Listed.{up_to-read}
 use Rattle.term.specs.Heads.{word}

@@ -1,5 +1,4 @@
 -- A row is told by the digits of its line.
-use borrow.Author.Rules.{rules}
 use Rattle.rulebook.proofs.Rows.{row_in_lem}
 use Rattle.rulebook.proofs.row_of.Goals as goal
 

@@ -1,5 +1,4 @@
 use mathlib.Core.Path.{◌∙◌}
-use Prim.Native.Nat.{ℕ, ◌<◌}
 use borrow.Author.Rules.{rules}
 use Rattle.words.proofs.Runs.{added, added_both, added_as}
 use Rattle.shapes.proofs.Steps.{Ruled, product_inside, child-inside, side_index, side-product, side-bound, side-declared, side-child}

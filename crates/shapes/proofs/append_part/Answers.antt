@@ -1,5 +1,4 @@
 -- A part is the run up to its end.
-use borrow.Author.Rules.{rules}
 use Rattle.words.proofs.Runs.{added_as, appended}
 use Rattle.shapes.proofs.Steps.{part-run}
 use Rattle.shapes.proofs.append_part.Goals as goal

@@ -1,6 +1,6 @@
 use native.Mathlib.Omega.{arith}
 use borrow.Author.Rules.{rules}
-use Rattle.shapes.proofs.Walks.{Walking, Turned, walk_begin, walk_end, walk_unknown, walk_whole, walk_first, walk_other, walk_found, walk_body}
+use Rattle.shapes.proofs.Walks.{Turned, walk_begin, walk_end, walk_unknown, walk_whole, walk_first, walk_other, walk_found, walk_body}
 use Rattle.shapes.proofs.binder_of.Goals as goal
 
 pub loop-i-init : goal.loop-i-init

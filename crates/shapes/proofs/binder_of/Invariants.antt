@@ -1,7 +1,5 @@
 -- The invariant: the sum asked for is what the walk comes to from here on. The measure is `i`.
-use native.Mathlib.Omega.{arith}
-use borrow.Author.Rules.{rules}
-use Rattle.shapes.proofs.Walks.{Walking, Turned, walk_begin, walk_end, walk_unknown, walk_whole, walk_first, walk_other, walk_found, walk_body}
+use Rattle.shapes.proofs.Walks.{Walking}
 use Rattle.shapes.proofs.binder_of.Given as goal
 
 abbrev pub invariant-loop-i : goal.invariant-loop-i

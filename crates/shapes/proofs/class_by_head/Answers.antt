@@ -1,6 +1,5 @@
 -- The number of the class in the table of heads.
 use mathlib.Core.Path.{◌∙◌, ap}
-use borrow.Author.Rules.{rules}
 use Rattle.typebook.specs.Code.Shapes.{number_of}
 use Rattle.shapes.proofs.class_by_head.Goals as goal
 

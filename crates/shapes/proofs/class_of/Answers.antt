@@ -1,6 +1,5 @@
-use mathlib.Core.Path.{◌≡◌, refl}
+use mathlib.Core.Path.{refl}
 use native.Mathlib.Omega.{arith}
-use borrow.Author.Rules.{rules}
 use Rattle.shapes.specs.Reading.{turned_if, class_at}
 use Rattle.shapes.proofs.Steps.{there, Turning, class-none, class_variable, class_head, class-child}
 use Rattle.shapes.proofs.class_of.Goals as goal

@@ -1,9 +1,6 @@
 -- The invariant: the class asked for is that of the part at hand, turned or not.
-use mathlib.Core.Path.{◌≡◌, refl}
-use native.Mathlib.Omega.{arith}
-use borrow.Author.Rules.{rules}
+use mathlib.Core.Path.{◌≡◌}
 use Rattle.shapes.specs.Reading.{turned_if, class_at}
-use Rattle.shapes.proofs.Steps.{there, Turning, class-none, class_variable, class_head, class-child}
 use Rattle.shapes.proofs.class_of.Given as goal
 
 abbrev pub invariant-loop-left : goal.invariant-loop-left

@@ -1,6 +1,5 @@
 -- By the test of the budget.
 use borrow.Author.Tests.{eq-eqb, ne_eqb}
-use borrow.Author.Rules.{rules}
 use Rattle.shapes.proofs.word_within.Goals as goal
 
 pub returns-then-budget-eq0 : goal.returns-then-budget-eq0

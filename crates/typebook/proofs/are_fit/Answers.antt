@@ -2,8 +2,7 @@
 use mathlib.Core.Bool.{true}
 use mathlib.Core.Path.{◌≡◌, sym, ◌∙◌}
 use Rattle.term.specs.Heads.{child_of}
-use borrow.Author.Rules.{rules}
-use borrow.Author.Tests.{ne_eqb, not-true, not-false}
+use borrow.Author.Tests.{ne_eqb}
 use Rattle.typebook.specs.Code.Shapes.{fitting}
 use Rattle.typebook.specs.Code.Lines.{fitted}
 use Rattle.typebook.proofs.are_fit.Goals as goal

@@ -1,7 +1,6 @@
 -- Each digit is one of the definition.
 use borrow.Author.Tests.{eq-eqb, ne_eqb}
 use Rattle.typebook.specs.Code.Lines.{class_by}
-use borrow.Author.Rules.{rules}
 use Rattle.typebook.proofs.class_by.Goals as goal
 
 pub returns-then-k-eq1 : goal.returns-then-k-eq1

@@ -1,5 +1,4 @@
 -- The tests of the definition, in its order.
-use borrow.Author.Rules.{rules}
 use borrow.Author.Tests.{eq-eqb, ne_eqb, le-leb, lt-leb}
 use Rattle.typebook.proofs.fits.Goals as goal
 

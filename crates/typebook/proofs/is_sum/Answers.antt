@@ -1,5 +1,4 @@
 -- The first digit of the line is 3.
-use borrow.Author.Rules.{rules}
 use Rattle.typebook.proofs.is_sum.Goals as goal
 
 pub returns : goal.returns

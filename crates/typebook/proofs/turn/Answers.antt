@@ -1,6 +1,5 @@
 -- Each test is one of the definition.
 use borrow.Author.Tests.{eq-eqb, ne_eqb}
-use borrow.Author.Rules.{rules}
 use Rattle.typebook.proofs.turn.Goals as goal
 
 pub returns-then-n-eq4 : goal.returns-then-n-eq4

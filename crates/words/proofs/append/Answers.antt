@@ -1,7 +1,6 @@
 -- A run that does not fit is not laid down, and one that fits is copied into its place.
 use mathlib.Core.Path.{refl, sym}
 use native.Mathlib.Omega.{arith}
-use borrow.Author.Rules.{rules}
 use Rattle.words.proofs.Runs.{laid_out, laid_copied}
 use Rattle.words.proofs.append.Goals as goal
 

@@ -1,9 +1,6 @@
-use mathlib.Core.Path.{◌≡◌, refl, sym, ◌∙◌}
-use Prim.Native.Nat.{◌-◌}
+use mathlib.Core.Path.{refl, sym, ◌∙◌}
 use native.Mathlib.Omega.{arith}
-use borrow.Author.Rules.{rules}
-use lib.ListN.{length, length-set}
-use Rattle.words.specs.Words.{cleared}
+use lib.ListN.{length-set}
 use Rattle.words.proofs.Runs.{cleared-end, cleared_more}
 use Rattle.words.proofs.clear_from.Goals as goal
 

@@ -1,11 +1,8 @@
 -- The invariant: to clear `ws` from `i` on would give what the contract asks, and `ws` is as long as it was. The measure is what is left of the length.
-use mathlib.Core.Path.{◌≡◌, refl, sym, ◌∙◌}
+use mathlib.Core.Path.{◌≡◌}
 use Prim.Native.Nat.{◌-◌}
-use native.Mathlib.Omega.{arith}
-use borrow.Author.Rules.{rules}
-use lib.ListN.{length, length-set}
+use lib.ListN.{length}
 use Rattle.words.specs.Words.{cleared}
-use Rattle.words.proofs.Runs.{cleared-end, cleared_more}
 use Rattle.words.proofs.clear_from.Given as goal
 
 abbrev pub invariant-loop-i : goal.invariant-loop-i

@@ -1,11 +1,8 @@
 -- The invariant: the first `i` words of `dst` are `src`'s, the others and the length are as they were, and `i` is at most the shorter length. The measure is what is left of it.
-use mathlib.Core.Path.{◌≡◌, sym, ◌∙◌}
+use mathlib.Core.Path.{◌≡◌}
 use mathlib.Core.List.{◌++◌}
-use Prim.Native.Nat.{◌-◌, ◌≤◌, ◌<◌, min}
-use native.Mathlib.Omega.{arith}
-use borrow.Author.Rules.{rules}
-use lib.ListN.{length, take, drop, length-set}
-use Rattle.words.proofs.Runs.{overlaid-is, copied_more}
+use Prim.Native.Nat.{◌-◌, ◌≤◌, min}
+use lib.ListN.{length, take, drop}
 use Rattle.words.proofs.copy_words.Given as goal
 
 abbrev pub invariant-loop-i : goal.invariant-loop-i

@@ -1,7 +1,6 @@
 -- Where there is no word behind those that move, nothing is laid; else the words from the offset on are.
 use mathlib.Core.Path.{refl, sym}
 use native.Mathlib.Omega.{arith}
-use borrow.Author.Rules.{rules}
 use Rattle.words.proofs.Runs.{no_room, laid-first}
 use Rattle.words.proofs.insert.Goals as goal
 

@@ -1,5 +1,4 @@
 -- Both ends are clipped to the run.
-use borrow.Author.Rules.{rules}
 use Rattle.words.proofs.Runs.{clipped}
 use Rattle.words.proofs.run.Goals as goal
 

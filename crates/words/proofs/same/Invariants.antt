@@ -1,12 +1,8 @@
 -- Runs of other lengths differ. The invariant: whether the first `i` words of both are the same. The measure is how many are left.
-use mathlib.Core.Path.{◌≡◌, sym, ◌∙◌}
+use mathlib.Core.Path.{◌≡◌}
 use Prim.Native.Nat.{◌-◌, ◌≤◌}
-use native.Mathlib.Omega.{arith}
-use borrow.Author.Rules.{rules}
 use lib.ListN.{take}
-use lib.Seq.{take_all}
 use Rattle.words.specs.Words.{same_words}
-use Rattle.words.proofs.Runs.{same-lengths, same_more}
 use Rattle.words.proofs.same.Given as goal
 
 abbrev pub invariant-loop-i : goal.invariant-loop-i

@@ -2,7 +2,6 @@
 use mathlib.Core.Path.{refl, ◌∙◌}
 use native.Mathlib.Omega.{arith}
 use lib.ListN.{length-set}
-use borrow.Author.Rules.{rules}
 use Rattle.declarations.proofs.Put.{variable_laid}
 use Rattle.declarations.proofs.constructor.add_variable.Goals as goal
 

@@ -1,11 +1,8 @@
 -- The invariant: to store what is left of `ws` would give what the contract asks, and `ds` is as long as it was. The measure is what is left of `ws`.
-use mathlib.Core.Path.{◌≡◌, sym, ◌∙◌}
+use mathlib.Core.Path.{◌≡◌}
 use Prim.Native.Nat.{◌+◌, ◌-◌, ◌≤◌}
-use native.Mathlib.Omega.{arith}
-use lib.ListN.{length, drop, length-set}
+use lib.ListN.{length, drop}
 use lib.Seq.{sets}
-use borrow.Author.Rules.{rules}
-use Rattle.declarations.proofs.Put.{sets_begin, sets_more, sets_end}
 use Rattle.declarations.proofs.constructor.lay.Given as goal
 
 abbrev pub invariant-loop-i : goal.invariant-loop-i

@@ -1,7 +1,6 @@
 -- The answer is told before anything is stored; where it is done, there is room and what is put is short.
 use mathlib.Core.Path.{◌∙◌}
 use native.Mathlib.Omega.{arith}
-use borrow.Author.Rules.{rules}
 use Rattle.declarations.specs.Put.{leaves}
 use Rattle.declarations.proofs.Put.{put-done, not_done, variable_few}
 use Rattle.declarations.proofs.constructor.put_variable.Goals as goal

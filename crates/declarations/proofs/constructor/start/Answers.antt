@@ -1,7 +1,6 @@
 -- The tests are the definition's in their order; the stores are a clearing and the count.
 use mathlib.Core.Path.{refl}
 use borrow.Author.Tests.{eq-eqb, ne_eqb, le-leb, lt-leb}
-use borrow.Author.Rules.{rules}
 use Rattle.declarations.specs.Put.{leaves, start_answer, started}
 use Rattle.declarations.proofs.constructor.start.Goals as goal
 

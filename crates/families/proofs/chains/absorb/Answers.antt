@@ -1,5 +1,4 @@
 -- The child is found or the part is refused, and the result is the word of 0.
-use borrow.Author.Rules.{rules}
 use borrow.Author.Tests.{not-true, not-false}
 use Rattle.words.proofs.Runs.{appended, added_as}
 use Rattle.families.proofs.Written.{refuses, writes}

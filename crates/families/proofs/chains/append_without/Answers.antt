@@ -1,5 +1,4 @@
 -- A word and two runs, one behind the other.
-use borrow.Author.Rules.{rules}
 use Rattle.words.proofs.Runs.{added_both, to_end, appended, added_as}
 use Rattle.families.proofs.chains.append_without.Goals as goal
 

@@ -1,6 +1,5 @@
 -- The typing rules have three heads of sums and products of many.
 use mathlib.Core.Path.{◌∙◌}
-use borrow.Author.Rules.{rules}
 use Rattle.families.proofs.Heads.{sum-heads}
 use Rattle.families.proofs.chains.is_chain.Goals as goal
 

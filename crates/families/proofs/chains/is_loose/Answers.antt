@@ -1,5 +1,4 @@
 -- The two tests.
-use borrow.Author.Rules.{rules}
 use borrow.Author.Tests.{eq-eqb, ne_eqb}
 use Rattle.families.proofs.chains.is_loose.Goals as goal
 

@@ -1,6 +1,5 @@
 -- The child is found or the part is refused, and the result is a node with one child less.
 use native.Mathlib.Omega.{arith}
-use borrow.Author.Rules.{rules}
 use borrow.Author.Tests.{not-true, not-false}
 use Rattle.words.proofs.Runs.{added_as}
 use Rattle.families.proofs.Split.{some_word, child-bounds}

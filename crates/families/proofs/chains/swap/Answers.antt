@@ -1,6 +1,5 @@
 -- Each refusal is one law, and the result is four runs of the part's words.
 use mathlib.Core.Path.{sym, ◌∙◌}
-use borrow.Author.Rules.{rules}
 use borrow.Author.Tests.{not-true, not-false}
 use Rattle.words.proofs.Runs.{appended}
 use Rattle.families.proofs.Split.{some_word, no_child_lem, Split, split}

@@ -1,9 +1,7 @@
 use mathlib.Core.Path.{sym, ◌∙◌}
-use Prim.Native.Nat.{◌-◌}
 use native.Mathlib.Omega.{arith}
-use borrow.Author.Rules.{rules}
 use Rattle.families.proofs.Split.{some_word}
-use Rattle.families.proofs.Walk.{Walked, read_first, walked_none, walked-past, walked_more, walked_here}
+use Rattle.families.proofs.Walk.{read_first, walked_none, walked-past, walked_more, walked_here}
 use Rattle.families.proofs.children.child_at.Goals as goal
 
 pub bounds-ws-0 : goal.bounds-ws-0

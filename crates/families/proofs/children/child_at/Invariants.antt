@@ -1,10 +1,6 @@
 -- The invariant: `k` children are passed, and child `i` is what it is among the rest. The measure is what is left to pass.
-use mathlib.Core.Path.{sym, ◌∙◌}
 use Prim.Native.Nat.{◌-◌}
-use native.Mathlib.Omega.{arith}
-use borrow.Author.Rules.{rules}
-use Rattle.families.proofs.Split.{some_word}
-use Rattle.families.proofs.Walk.{Walked, read_first, walked_none, walked-past, walked_more, walked_here}
+use Rattle.families.proofs.Walk.{Walked}
 use Rattle.families.proofs.children.child_at.Given as goal
 
 abbrev pub invariant-loop-k : goal.invariant-loop-k

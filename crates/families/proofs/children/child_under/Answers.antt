@@ -1,7 +1,6 @@
 -- Each answer is what its tests say.
 use Prim.Native.Nat.{◌<◌}
 use native.Mathlib.Omega.{arith}
-use borrow.Author.Rules.{rules}
 use borrow.Author.Tests.{not-true, not-false}
 use lib.ListN.{length}
 use Rattle.families.proofs.Split.{some_word, split, child-bounds}

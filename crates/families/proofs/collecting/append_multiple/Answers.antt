@@ -3,7 +3,6 @@ use mathlib.Core.Path.{◌≡◌}
 use mathlib.Core.List.{List, [], ◌∷◌, ◌++◌}
 use Prim.Native.Nat.{ℕ, ◌+◌, min}
 use lib.ListN.{length}
-use borrow.Author.Rules.{rules}
 use Rattle.words.specs.Words.{laid, Added}
 use Rattle.words.proofs.Runs.{added, added_both, appended}
 use Rattle.families.proofs.collecting.append_multiple.Goals as goal

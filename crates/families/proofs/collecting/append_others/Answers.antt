@@ -2,7 +2,6 @@
 use mathlib.Core.List.{List, [], ◌∷◌, ◌++◌}
 use Prim.Native.Nat.{ℕ, ◌-◌}
 use lib.ListN.{length, take, drop}
-use borrow.Author.Rules.{rules}
 use Rattle.words.specs.Words.{Added}
 use Rattle.words.proofs.Runs.{added_both, to_end, appended, added_as}
 use Rattle.families.proofs.collecting.append_others.Goals as goal

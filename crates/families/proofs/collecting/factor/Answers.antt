@@ -1,6 +1,5 @@
 -- Each answer is what its test says.
 use borrow.Author.Tests.{eq-eqb, ne_eqb}
-use borrow.Author.Rules.{rules}
 use Rattle.families.proofs.collecting.factor.Goals as goal
 
 pub returns-then-x-start : goal.returns-then-x-start

@@ -1,6 +1,5 @@
 -- Each answer is what its tests say.
 use borrow.Author.Tests.{eq-eqb, ne_eqb}
-use borrow.Author.Rules.{rules}
 use Rattle.families.proofs.collecting.same_x.Goals as goal
 
 pub returns-then-x-eq0 : goal.returns-then-x-eq0

@@ -1,7 +1,6 @@
 -- Each answer is what its tests say.
 use lib.ListN.{get_or}
 use borrow.Author.Tests.{eq-eqb, ne_eqb}
-use borrow.Author.Rules.{rules}
 use Rattle.families.proofs.collecting.x_of.Goals as goal
 
 pub returns-then-scaled-eq0 : goal.returns-then-scaled-eq0

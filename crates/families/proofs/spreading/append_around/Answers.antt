@@ -4,7 +4,6 @@ use mathlib.Core.List.{List, ◌++◌}
 use Prim.Native.Nat.{ℕ, ◌-◌}
 use native.Mathlib.Nat.{sub-zero}
 use lib.ListN.{length, take, drop}
-use borrow.Author.Rules.{rules}
 use Rattle.words.specs.Words.{Added}
 use Rattle.words.proofs.Runs.{added_both, to_end, appended, added_as}
 use Rattle.families.proofs.spreading.append_around.Goals as goal

@@ -1,13 +1,11 @@
-use Prim.Native.Nat.{◌-◌}
 use native.Mathlib.Omega.{arith}
-use borrow.Author.Rules.{rules}
 use borrow.Author.Tests.{not-true, not-false}
 use Rattle.words.proofs.Runs.{added_both, appended, added_as}
 use Rattle.families.proofs.Split.{Split, child-bounds}
 use Rattle.families.proofs.Tested.{found}
 use Rattle.families.proofs.Written.{refuses, writes}
 use Rattle.families.proofs.Spread.{spreads-none, spreads-child, spread-words, spread_nodes_few}
-use Rattle.families.proofs.Summands.{Passed, passed_none, passed-bounds, passed-more, passed-all}
+use Rattle.families.proofs.Summands.{passed_none, passed-bounds, passed-more, passed-all}
 use Rattle.families.proofs.spreading.spread.Goals as goal
 
 pub returns-then-not-c : goal.returns-then-not-c

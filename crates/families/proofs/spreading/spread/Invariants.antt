@@ -1,15 +1,7 @@
 -- The child is found or the part is refused. The invariant: the summands before `next` are passed, and the node over each of them is written behind the sum's word.
 -- The measure is what is left of the child.
 use Prim.Native.Nat.{◌-◌}
-use native.Mathlib.Omega.{arith}
-use borrow.Author.Rules.{rules}
-use borrow.Author.Tests.{not-true, not-false}
-use Rattle.words.proofs.Runs.{added_both, appended, added_as}
-use Rattle.families.proofs.Split.{Split, child-bounds}
-use Rattle.families.proofs.Tested.{found}
-use Rattle.families.proofs.Written.{refuses, writes}
-use Rattle.families.proofs.Spread.{spreads-none, spreads-child, spread-words, spread_nodes_few}
-use Rattle.families.proofs.Summands.{Passed, passed_none, passed-bounds, passed-more, passed-all}
+use Rattle.families.proofs.Summands.{Passed}
 use Rattle.families.proofs.spreading.spread.Given as goal
 
 abbrev pub invariant-loop-next : goal.invariant-loop-next

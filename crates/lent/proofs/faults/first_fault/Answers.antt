@@ -1,7 +1,6 @@
 -- What comes before the types, and then the types.
 use mathlib.Core.Path.{◌∙◌}
 use Rattle.lent.proofs.Tests.{early_fault, late_fault}
-use borrow.Author.Rules.{rules}
 use Rattle.lent.proofs.faults.first_fault.Goals as goal
 
 pub returns-then-early-ne0 : goal.returns-then-early-ne0

@@ -1,8 +1,6 @@
 -- Sizes, rows and columns.
 use mathlib.Core.Path.{sym, ◌∙◌}
-use borrow.Author.Tests.{not-true, not-false}
 use Rattle.lent.proofs.Tests.{other_sizes, other_rows, same-columns}
-use borrow.Author.Rules.{rules}
 use Rattle.lent.proofs.faults.same_type.Goals as goal
 
 pub returns-then-not-same_sizes : goal.returns-then-not-same_sizes

@@ -2,7 +2,6 @@
 use mathlib.Core.Path.{sym, ◌∙◌}
 use borrow.Author.Tests.{eq-eqb, ne_eqb}
 use Rattle.lent.specs.Faults.{types_fault}
-use borrow.Author.Rules.{rules}
 use Rattle.lent.proofs.faults.types_fault.Goals as goal
 
 pub returns-then-left-ne0 : goal.returns-then-left-ne0

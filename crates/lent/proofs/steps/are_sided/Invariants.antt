@@ -1,13 +1,8 @@
 -- The invariant: every step below `k` names a side.
-use mathlib.Core.Path.{◌≡◌, sym, ◌∙◌}
+use mathlib.Core.Path.{◌≡◌}
 use mathlib.Core.Bool.{true}
 use Prim.Native.Nat.{ℕ, ◌-◌, ◌≤◌, ◌<◌}
-use native.Mathlib.Omega.{arith}
-use borrow.Author.Count.{below_none, below_more}
-use borrow.Author.Tests.{not-true, not-false}
-use Rattle.words.proofs.Listed.{all_up_to-all, all_up_to-fails}
 use Rattle.lent.specs.Lent.{sided}
-use borrow.Author.Rules.{rules}
 use Rattle.lent.proofs.steps.are_sided.Given as goal
 
 abbrev pub invariant-loop-k : goal.invariant-loop-k

@@ -1,7 +1,6 @@
 -- A step is laid down where there is room for it.
 use native.Mathlib.Omega.{arith}
 use Rattle.lent.proofs.Lending.{past_all, put_down}
-use borrow.Author.Rules.{rules}
 use Rattle.lent.proofs.steps.put_step.Goals as goal
 
 pub returns-then-k-ge-MOST_STEPS : goal.returns-then-k-ge-MOST_STEPS

@@ -2,7 +2,6 @@
 use mathlib.Core.Path.{sym, ◌∙◌}
 use native.Mathlib.Omega.{arith}
 use Rattle.lent.proofs.Lending.{too_many, too_short, sides-told}
-use borrow.Author.Rules.{rules}
 use Rattle.lent.proofs.steps.steps_fault.Goals as goal
 
 pub returns-then-n-gt-MOST_STEPS : goal.returns-then-n-gt-MOST_STEPS

@@ -1,5 +1,4 @@
 -- The class decides which side is written, or that there is none.
-use borrow.Author.Rules.{rules}
 use Rattle.words.proofs.Runs.{appended, added_as}
 use Rattle.step.proofs.Indices.{second-read, no_second, first_read, no_first}
 use Rattle.step.proofs.building.append_index.Goals as goal

@@ -1,18 +1,13 @@
 -- The invariant: the pieces of the words that were passed are written. The measure is how many are left.
-use mathlib.Core.Path.{◌≡◌, refl, ◌∙◌, ap}
+use mathlib.Core.Path.{◌≡◌}
 use mathlib.Core.Logic.{◌⊎◌}
 use mathlib.Core.Bool.{true}
 use Prim.Native.Nat.{◌-◌, ◌≤◌}
-use native.Mathlib.Omega.{arith}
-use borrow.Author.Rules.{rules}
 use lib.ListN.{length, take}
-use lib.Seq.{take_all}
 use Rattle.words.specs.Words.{Added}
-use Rattle.words.proofs.Runs.{added_both, none_added, added_as}
 use Rattle.declarations.specs.Declarations.{context_at}
 use Rattle.shapes.specs.Bodies.{outer_at}
 use Rattle.step.specs.Code.Building.{pieces, indexless, Caught, AllSorted}
-use Rattle.step.proofs.Pieces.{side-asks, side-more, side-typed}
 use Rattle.step.proofs.building.build_side.Given as goal
 
 abbrev pub invariant-loop-k : goal.invariant-loop-k

@@ -1,9 +1,5 @@
-use mathlib.Core.Path.{◌≡◌, refl, sym, ◌∙◌}
-use Prim.Native.Nat.{◌-◌, ◌≤◌}
+use mathlib.Core.Path.{refl, sym, ◌∙◌}
 use native.Mathlib.Omega.{arith}
-use borrow.Author.Rules.{rules}
-use lib.ListN.{length, drop}
-use Rattle.words.specs.Listed.{lacks}
 use Rattle.step.proofs.Conditions.{lacks_here, lacks-more, lacks-end}
 use Rattle.step.proofs.equations.is_without.Goals as goal
 

@@ -1,11 +1,8 @@
 -- The invariant: the answer is that for the words still to come. The measure is how many they are.
-use mathlib.Core.Path.{◌≡◌, refl, sym, ◌∙◌}
+use mathlib.Core.Path.{◌≡◌}
 use Prim.Native.Nat.{◌-◌, ◌≤◌}
-use native.Mathlib.Omega.{arith}
-use borrow.Author.Rules.{rules}
 use lib.ListN.{length, drop}
 use Rattle.words.specs.Listed.{lacks}
-use Rattle.step.proofs.Conditions.{lacks_here, lacks-more, lacks-end}
 use Rattle.step.proofs.equations.is_without.Given as goal
 
 abbrev pub invariant-loop-k : goal.invariant-loop-k

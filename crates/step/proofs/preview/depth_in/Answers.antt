@@ -1,7 +1,5 @@
 -- The second run stands behind the first, and both are the front of the slice.
-use mathlib.Core.Path.{sym, ◌∙◌}
-use borrow.Author.Rules.{rules}
-use lib.Seq.{length-take-le}
+use mathlib.Core.Path.{◌∙◌}
 use Rattle.step.proofs.Previewed.{both-there}
 use Rattle.step.proofs.preview.depth_in.Goals as goal
 

@@ -1,5 +1,4 @@
 -- What the walk tells, or the lookup.
-use borrow.Author.Rules.{rules}
 use Rattle.step.proofs.preview.depth_of_both.Goals as goal
 
 pub returns-then-depth-ne0 : goal.returns-then-depth-ne0

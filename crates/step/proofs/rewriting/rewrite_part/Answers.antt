@@ -1,6 +1,5 @@
 -- Equations are matched here; a family finds its row by the number.
 use mathlib.Core.Path.{sym, ap}
-use borrow.Author.Rules.{rules}
 use lib.ListN.{length}
 use Rattle.lent.specs.Lent.{asked}
 use Rattle.step.proofs.Dispatched.{equation_of, equation_deepens, equates, at_site}

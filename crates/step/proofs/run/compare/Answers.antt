@@ -2,7 +2,6 @@
 use mathlib.Core.Path.{sym, ◌∙◌}
 use lib.Seq.{length-take-le}
 use Rattle.step.specs.Runs.{compared}
-use borrow.Author.Rules.{rules}
 use Rattle.step.proofs.run.compare.Goals as goal
 
 pub slice_bounds-same-end : goal.slice_bounds-same-end

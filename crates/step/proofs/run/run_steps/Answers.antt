@@ -8,7 +8,6 @@ use Rattle.lent.specs.Lent.{lent}
 use Rattle.lent.specs.Refusals.{Begun}
 use Rattle.step.proofs.Begun.{start, begun, ready, untouched, all-zeros, stopped, ended}
 use Rattle.step.proofs.Moving.{its_term}
-use borrow.Author.Rules.{rules}
 use Rattle.step.proofs.run.run_steps.Goals as goal
 
 pub returns-then-fault-eq1 : goal.returns-then-fault-eq1

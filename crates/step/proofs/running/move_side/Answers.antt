@@ -2,7 +2,6 @@
 use borrow.Author.Tests.{ne_eqb}
 use Rattle.lent.specs.Lent.{side_in}
 use Rattle.step.proofs.Moving.{asks, moved_left, moved_right}
-use borrow.Author.Rules.{rules}
 use Rattle.step.proofs.running.move_side.Goals as goal
 
 pub step_on-taken-requires : goal.step_on-taken-requires

@@ -1,12 +1,5 @@
-use mathlib.Core.Path.{◌≡◌, refl}
-use Prim.Native.Nat.{◌-◌, ◌≤◌}
+use mathlib.Core.Path.{refl}
 use native.Mathlib.Omega.{arith}
-use lib.ListN.{length}
-use Rattle.types.specs.Sorts.{Sort}
-use Rattle.declarations.specs.Declarations.{context_in}
-use Rattle.rules.specs.Steps.{Sides}
-use Rattle.step.specs.Code.Running.{Ready}
-use Rattle.step.specs.Runs.{run_from}
 use Rattle.step.proofs.Moving.{move-is, all-taken, goes_on, stops}
 use borrow.Author.Rules.{rules}
 use Rattle.step.proofs.running.take_from.Goals as goal

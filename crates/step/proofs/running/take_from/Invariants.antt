@@ -1,15 +1,12 @@
 -- The invariant: what is left of the whole run is the run of the steps from `k` on, on the sides that the slices hold.
-use mathlib.Core.Path.{◌≡◌, refl}
+use mathlib.Core.Path.{◌≡◌}
 use Prim.Native.Nat.{◌-◌, ◌≤◌}
-use native.Mathlib.Omega.{arith}
 use lib.ListN.{length}
 use Rattle.types.specs.Sorts.{Sort}
 use Rattle.declarations.specs.Declarations.{context_in}
 use Rattle.rules.specs.Steps.{Sides}
 use Rattle.step.specs.Code.Running.{Ready}
 use Rattle.step.specs.Runs.{run_from}
-use Rattle.step.proofs.Moving.{move-is, all-taken, goes_on, stops}
-use borrow.Author.Rules.{rules}
 use Rattle.step.proofs.running.take_from.Given as goal
 
 abbrev pub invariant-loop-k : goal.invariant-loop-k

@@ -1,6 +1,5 @@
 -- Typing decides what is refused before a step; the step is taken on the slice with zeros behind its term.
 use mathlib.Core.Path.{refl, sym, ◌∙◌, ap}
-use borrow.Author.Rules.{rules}
 use borrow.Author.Tests.{ne_eqb}
 use Rattle.typing.specs.declared.terms.Typing.{Typing}
 use Rattle.words.proofs.Runs.{cleared_twice}

@@ -1,7 +1,4 @@
 -- What lies behind the new end is cleared as far as the old words went.
-use mathlib.Core.Path.{sym}
-use borrow.Author.Rules.{rules}
-use lib.Seq.{length-take-le}
 use Rattle.step.proofs.Putting.{clear_words}
 use Rattle.step.proofs.stepping.clear_behind.Goals as goal
 

@@ -7,7 +7,6 @@ use borrow.Author.Rules.{rules}
 use borrow.Author.Tests.{ltb-true, ltb-false}
 use lib.Dec.{ltb}
 use lib.ListN.{length, drop, length-drop, length-take}
-use lib.Seq.{length-take-le}
 use Rattle.words.specs.Words.{Added}
 use Rattle.words.proofs.Runs.{added, to_end, added_as}
 use Rattle.term.specs.Trees.{words, depth, level}

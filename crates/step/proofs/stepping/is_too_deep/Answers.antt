@@ -3,12 +3,11 @@ use mathlib.Core.Path.{◌≡◌, sym}
 use mathlib.Core.Bool.{false}
 use Prim.Native.Nat.{ℕ, ◌+◌, ◌≤◌}
 use native.Mathlib.Omega.{arith}
-use borrow.Author.Tests.{le-ltb, not-true, not-false}
+use borrow.Author.Tests.{le-ltb}
 use lib.Dec.{ltb}
 use Rattle.term.specs.Parts.{part_depth}
 use Rattle.term.specs.Terms.{level_at}
 use Rattle.step.proofs.Limits.{part-shallow, seat_below, seat_fits, seat_flat}
-use borrow.Author.Rules.{rules}
 use Rattle.step.proofs.stepping.is_too_deep.Goals as goal
 
 -- a part that fits is not too deep

@@ -1,6 +1,5 @@
 -- The tests in their order; what each finds, the equation of a step says.
 use mathlib.Core.Path.{refl}
-use borrow.Author.Rules.{rules}
 use Rattle.families.proofs.Lines.{Ruled, ruled}
 use Rattle.step.proofs.Stepped.{site, made_20, made_21, made_22, fine, finished}
 use Rattle.step.proofs.stepping.make.Goals as goal

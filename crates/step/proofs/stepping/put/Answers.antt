@@ -1,5 +1,4 @@
 -- What is copied stands over what the clearing left.
-use borrow.Author.Rules.{rules}
 use Rattle.step.proofs.Putting.{put-words}
 use Rattle.step.proofs.stepping.put.Goals as goal
 

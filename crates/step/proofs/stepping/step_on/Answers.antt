@@ -1,7 +1,6 @@
 -- The step is made apart; then it is refused, or its words are put from the place on.
 use mathlib.Core.Path.{sym}
 use native.Mathlib.Omega.{arith}
-use borrow.Author.Rules.{rules}
 use lib.Seq.{length-take-le}
 use Rattle.step.proofs.Taking.{termed, slice-size, inside-slice, room, room_out, refuses, does, made_for}
 use Rattle.step.proofs.stepping.step_on.Goals as goal

@@ -2,11 +2,7 @@
 use mathlib.Core.Path.{◌≡◌}
 use mathlib.Core.Bool.{true}
 use Prim.Native.Nat.{◌-◌, ◌≤◌}
-use native.Mathlib.Omega.{arith}
-use borrow.Author.Count.{below_none}
-use borrow.Author.Rules.{rules}
 use Rattle.term.specs.Code.Rows.{Leaves}
-use Rattle.term.proofs.Rows.{leaves-more}
 use Rattle.term.proofs.ahead.are_variables.Given as goal
 
 abbrev pub invariant-loop-k : goal.invariant-loop-k

@@ -1,7 +1,6 @@
 -- None may always be passed; all are, where they are variables.
 use native.Mathlib.Omega.{arith}
 use borrow.Author.Count.{below_none}
-use borrow.Author.Rules.{rules}
 use Rattle.term.proofs.ahead.leaves_ahead.Goals as goal
 
 pub returns-then-n-lt-LONG_ROW : goal.returns-then-n-lt-LONG_ROW

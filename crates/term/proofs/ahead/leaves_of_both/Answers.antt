@@ -4,7 +4,6 @@ use Prim.Native.Nat.{◌+◌, ◌-◌}
 use native.Mathlib.Omega.{arith}
 use lib.ListN.{length}
 use borrow.Author.Count.{below_none}
-use borrow.Author.Rules.{rules}
 use Rattle.term.proofs.Rows.{leaves-front, leaves-back, leaves-join}
 use Rattle.term.proofs.ahead.leaves_of_both.Goals as goal
 

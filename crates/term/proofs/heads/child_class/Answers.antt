@@ -2,7 +2,6 @@
 use mathlib.Core.Path.{sym, ◌∙◌, ap}
 use Prim.Native.Nat.{◌≤◌}
 use native.Mathlib.Omega.{arith}
-use borrow.Author.Rules.{rules}
 use Rattle.term.specs.Heads.{child_of}
 use Rattle.term.proofs.Lines.{child-line, second-line, counted-line, others_line}
 use Rattle.term.proofs.heads.child_class.Goals as goal

@@ -2,7 +2,6 @@
 use mathlib.Core.Path.{refl, sym, ap}
 use Prim.Native.Nat.{◌/◌}
 use native.Mathlib.Omega.{arith}
-use borrow.Author.Rules.{rules}
 use Rattle.words.specs.Listed.{all_up_to}
 use Rattle.term.specs.Code.Lines.{line_at}
 use Rattle.term.proofs.Lines.{line-past, form-at}

@@ -1,6 +1,5 @@
 -- `heads::result_class` meets its contract: the second digit of the head's line.
 use mathlib.Core.Path.{◌∙◌}
-use borrow.Author.Rules.{rules}
 use Rattle.term.proofs.Lines.{result-line}
 use Rattle.term.proofs.heads.result_class.Goals as goal
 

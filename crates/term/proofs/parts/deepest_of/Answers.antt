@@ -1,7 +1,5 @@
 use mathlib.Core.Path.{◌≡◌, refl, ◌∙◌}
-use Prim.Native.Nat.{◌-◌, ◌≤◌}
 use native.Mathlib.Omega.{arith}
-use borrow.Author.Rules.{rules}
 use lib.ListN.{length}
 use Rattle.term.specs.Code.Deepest.{deepest_in}
 use Rattle.term.proofs.Levels.{level-few, deepest_more}

@@ -1,11 +1,8 @@
 -- The invariant: `deepest` is that of the first `k` words.
-use mathlib.Core.Path.{◌≡◌, refl, ◌∙◌}
+use mathlib.Core.Path.{◌≡◌}
 use Prim.Native.Nat.{◌-◌, ◌≤◌}
-use native.Mathlib.Omega.{arith}
-use borrow.Author.Rules.{rules}
 use lib.ListN.{length}
 use Rattle.term.specs.Code.Deepest.{deepest_in}
-use Rattle.term.proofs.Levels.{level-few, deepest_more}
 use Rattle.term.proofs.parts.deepest_of.Given as goal
 
 abbrev pub invariant-loop-k : goal.invariant-loop-k

@@ -1,6 +1,5 @@
 -- What a walk tells.
 use mathlib.Core.Path.{refl}
-use borrow.Author.Rules.{rules}
 use Rattle.term.proofs.parts.depth_told.Goals as goal
 
 pub returns-then-near : goal.returns-then-near

@@ -1,9 +1,7 @@
 use mathlib.Core.Path.{sym, ◌∙◌}
-use mathlib.Core.Logic.{⊎_elim}
 use lib.ListN.{length-take}
 use native.Mathlib.Omega.{arith}
-use borrow.Author.Rules.{rules}
-use Rattle.term.proofs.Levels.{Back, back-begin, back_end, back_below, back_whole, back-unknown}
+use Rattle.term.proofs.Levels.{back-begin, back_end, back_below, back_whole, back-unknown}
 use Rattle.term.proofs.parts.level_at.Goals as goal
 use Rattle.term.proofs.parts.level_at.Goals.{then-at-ws, else-at-ws}
 

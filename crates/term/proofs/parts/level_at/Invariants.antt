@@ -1,10 +1,5 @@
 -- The invariant: `level` and `parts` are what the words from `i` up to the place give. The measure is `i`.
-use mathlib.Core.Path.{sym, ◌∙◌}
-use mathlib.Core.Logic.{⊎_elim}
-use lib.ListN.{length-take}
-use native.Mathlib.Omega.{arith}
-use borrow.Author.Rules.{rules}
-use Rattle.term.proofs.Levels.{Back, back-begin, back_end, back_below, back_whole, back-unknown}
+use Rattle.term.proofs.Levels.{Back}
 use Rattle.term.proofs.parts.level_at.Given as goal
 
 abbrev pub invariant-loop-i : goal.invariant-loop-i

@@ -1,10 +1,9 @@
 use mathlib.Core.Path.{◌≡◌, sym, ◌∙◌}
-use Prim.Native.Nat.{◌+◌, ◌-◌, ◌≤◌}
+use Prim.Native.Nat.{◌+◌, ◌-◌}
 use native.Mathlib.Omega.{arith}
-use borrow.Author.Rules.{rules}
-use lib.ListN.{length, drop}
-use Rattle.term.specs.Parts.{part, chop, parse}
-use Rattle.term.proofs.Scan.{end_by, end-begin, end_more, end-done, end-unknown, end_short, part-past, children_few}
+use lib.ListN.{length}
+use Rattle.term.specs.Parts.{part}
+use Rattle.term.proofs.Scan.{end-begin, end_more, end-done, end-unknown, end_short, part-past, children_few}
 use Rattle.term.proofs.Rows.{end_leaves}
 use Rattle.term.proofs.parts.part_end.Goals as goal
 

@@ -1,12 +1,9 @@
 -- The invariant: so many parts are still to come at `i`, and the end asked for is behind them. The measure is what is left of the words.
-use mathlib.Core.Path.{◌≡◌, sym, ◌∙◌}
+use mathlib.Core.Path.{◌≡◌}
 use Prim.Native.Nat.{◌+◌, ◌-◌, ◌≤◌}
-use native.Mathlib.Omega.{arith}
-use borrow.Author.Rules.{rules}
 use lib.ListN.{length, drop}
 use Rattle.term.specs.Parts.{part, chop, parse}
-use Rattle.term.proofs.Scan.{end_by, end-begin, end_more, end-done, end-unknown, end_short, part-past, children_few}
-use Rattle.term.proofs.Rows.{end_leaves}
+use Rattle.term.proofs.Scan.{end_by}
 use Rattle.term.proofs.parts.part_end.Given as goal
 
 abbrev pub invariant-loop-need : goal.invariant-loop-need

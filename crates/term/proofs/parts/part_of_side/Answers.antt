@@ -1,5 +1,4 @@
 -- Each side's part is the first lookup's.
-use borrow.Author.Rules.{rules}
 use Rattle.term.specs.Parts.{side}
 use Rattle.term.proofs.parts.part_of_side.Goals as goal
 

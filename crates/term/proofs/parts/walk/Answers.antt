@@ -1,11 +1,9 @@
 use mathlib.Core.Path.{◌≡◌, refl, sym, ◌∙◌}
 use mathlib.Core.List.{◌++◌}
-use Prim.Native.Nat.{ℕ, ◌+◌, ◌-◌, ◌*◌, ◌<◌}
+use Prim.Native.Nat.{ℕ, ◌-◌, ◌<◌}
 use native.Mathlib.Omega.{arith}
-use borrow.Author.Rules.{rules}
 use lib.ListN.{length, length-set, length-append}
-use Rattle.term.specs.Heads.{arity_of}
-use Rattle.term.proofs.Extents.{Walked, walked-begin, walked_end, walked-close, walked-past, walked-unknown, walked_open}
+use Rattle.term.proofs.Extents.{walked-begin, walked_end, walked-close, walked-past, walked-unknown, walked_open}
 use Rattle.term.proofs.Rows.{walked_over}
 use Rattle.term.proofs.parts.walk.Goals as goal
 

@@ -1,13 +1,9 @@
 -- The invariant: what is asked for is where the walk from here on ends. The measure counts a word twice, since what it opens is closed again.
-use mathlib.Core.Path.{◌≡◌, refl, sym, ◌∙◌}
+use mathlib.Core.Path.{◌≡◌}
 use mathlib.Core.List.{◌++◌}
-use Prim.Native.Nat.{ℕ, ◌+◌, ◌-◌, ◌*◌, ◌<◌}
-use native.Mathlib.Omega.{arith}
-use borrow.Author.Rules.{rules}
-use lib.ListN.{length, length-set, length-append}
-use Rattle.term.specs.Heads.{arity_of}
-use Rattle.term.proofs.Extents.{Walked, walked-begin, walked_end, walked-close, walked-past, walked-unknown, walked_open}
-use Rattle.term.proofs.Rows.{walked_over}
+use Prim.Native.Nat.{◌+◌, ◌-◌, ◌*◌}
+use lib.ListN.{length}
+use Rattle.term.proofs.Extents.{Walked}
 use Rattle.term.proofs.parts.walk.Given as goal
 
 abbrev pub invariant-loop-left : goal.invariant-loop-left

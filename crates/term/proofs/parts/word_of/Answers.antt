@@ -1,7 +1,6 @@
 -- In the slice where it stands.
 use mathlib.Core.Path.{sym}
 use Rattle.term.proofs.Rows.{word-front, word_back}
-use borrow.Author.Rules.{rules}
 use Rattle.term.proofs.parts.word_of.Goals as goal
 
 pub returns-then-i-front : goal.returns-then-i-front

@@ -1,14 +1,6 @@
-use mathlib.Core.Path.{◌≡◌, refl}
-use mathlib.Core.Bool.{Bool, cond}
-use Prim.Native.Nat.{ℕ, ◌-◌}
+use mathlib.Core.Path.{refl}
 use native.Mathlib.Omega.{arith}
-use borrow.Author.Rules.{rules}
-use lib.ListN.{length, drop}
-use Rattle.words.specs.Listed.{all}
 use Rattle.words.proofs.Listed.{all_more, all-fails, all_end}
-use Rattle.term.specs.declared.terms.Names.{Names}
-use Rattle.term.specs.Terms.{declared, index_word}
-use Rattle.term.proofs.terms.all_pass.Invariants.{test}
 use Rattle.term.proofs.terms.all_pass.Goals as goal
 
 pub loop-i-init : goal.loop-i-init

@@ -1,12 +1,9 @@
 -- The invariant: what is to be known of all words is still to be known of those from `i` on. The measure is what is left of the length.
-use mathlib.Core.Path.{◌≡◌, refl}
+use mathlib.Core.Path.{◌≡◌}
 use mathlib.Core.Bool.{Bool, cond}
 use Prim.Native.Nat.{ℕ, ◌-◌}
-use native.Mathlib.Omega.{arith}
-use borrow.Author.Rules.{rules}
 use lib.ListN.{length, drop}
 use Rattle.words.specs.Listed.{all}
-use Rattle.words.proofs.Listed.{all_more, all-fails, all_end}
 use Rattle.term.specs.declared.terms.Names.{Names}
 use Rattle.term.specs.Terms.{declared, index_word}
 use Rattle.term.proofs.terms.all_pass.Given as goal

@@ -1,5 +1,4 @@
 -- One of the two tests of all words.
-use borrow.Author.Rules.{rules}
 use Rattle.term.proofs.terms.are_index_words.Goals as goal
 
 pub returns : goal.returns

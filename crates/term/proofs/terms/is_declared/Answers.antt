@@ -1,5 +1,4 @@
 -- The head picks the count, by the tests of the definition in their order.
-use borrow.Author.Rules.{rules}
 use borrow.Author.Tests.{eq-eqb, ne_eqb}
 use Rattle.term.specs.Terms.{declared}
 use Rattle.term.proofs.terms.is_declared.Goals as goal

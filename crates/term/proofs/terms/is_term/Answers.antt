@@ -1,7 +1,6 @@
 -- Each answer is the first condition of the definition that fails, or the last one.
 use mathlib.Core.Path.{sym, ◌∙◌, ap}
 use native.Mathlib.Omega.{arith}
-use borrow.Author.Rules.{rules}
 use lib.ListN.{length}
 use lib.Seq.{length-take-le}
 use Rattle.term.proofs.TermTest.{term_in, term-past, term_empty, term-long, term-end, term_deep, term-names}

@@ -1,5 +1,4 @@
 -- By the flag.
-use borrow.Author.Rules.{rules}
 use Rattle.term.proofs.terms.passes.Goals as goal
 
 pub returns-then-index : goal.returns-then-index

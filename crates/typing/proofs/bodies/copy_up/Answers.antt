@@ -1,10 +1,6 @@
 use mathlib.Core.Path.{◌≡◌, sym, ◌∙◌}
-use Prim.Native.Nat.{◌-◌, ◌≤◌}
 use native.Mathlib.Omega.{arith}
-use borrow.Author.Rules.{rules}
 use lib.ListN.{length}
-use Rattle.words.specs.Words.{laid}
-use Rattle.typing.specs.Code.Shapes.{run}
 use Rattle.typing.proofs.Lying.{laid_same}
 use Rattle.typing.proofs.Binding.{copied_long, copied_more}
 use Rattle.typing.proofs.bodies.copy_up.Goals as goal

@@ -1,13 +1,8 @@
 -- The invariant: the first `i` words of the run are laid down. They come to stand behind the run, so that it is what it was.
-use mathlib.Core.Path.{◌≡◌, sym, ◌∙◌}
+use mathlib.Core.Path.{◌≡◌}
 use Prim.Native.Nat.{◌-◌, ◌≤◌}
-use native.Mathlib.Omega.{arith}
-use borrow.Author.Rules.{rules}
-use lib.ListN.{length}
 use Rattle.words.specs.Words.{laid}
 use Rattle.typing.specs.Code.Shapes.{run}
-use Rattle.typing.proofs.Lying.{laid_same}
-use Rattle.typing.proofs.Binding.{copied_long, copied_more}
 use Rattle.typing.proofs.bodies.copy_up.Given as goal
 
 abbrev pub invariant-loop-i : goal.invariant-loop-i

@@ -2,8 +2,6 @@
 use mathlib.Core.Path.{◌≡◌, sym, ◌∙◌}
 use mathlib.Core.Bool.{true}
 use native.Mathlib.Omega.{arith}
-use borrow.Author.Rules.{rules}
-use borrow.Author.Tests.{not-true, not-false}
 use Prim.Native.Nat.{◌+◌, ◌≤◌}
 use Rattle.typing.specs.Code.Chains.{around_of, in_reach}
 use Rattle.typing.proofs.Binding.{chain-low, bound-past, bound-room, bound_answers}

@@ -1,8 +1,5 @@
-use mathlib.Core.Path.{◌≡◌}
-use Prim.Native.Nat.{◌-◌, ◌≤◌}
 use native.Mathlib.Omega.{arith}
 use borrow.Author.Rules.{rules}
-use Rattle.typing.specs.Code.Chains.{link_at}
 use Rattle.typing.proofs.Binding.{link_start, link_more, link_end}
 use Rattle.typing.proofs.bodies.record_at.Goals as goal
 

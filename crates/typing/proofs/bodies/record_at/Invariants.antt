@@ -1,10 +1,7 @@
 -- The links that are left lead from here to the record that was asked for.
 use mathlib.Core.Path.{◌≡◌}
 use Prim.Native.Nat.{◌-◌, ◌≤◌}
-use native.Mathlib.Omega.{arith}
-use borrow.Author.Rules.{rules}
 use Rattle.typing.specs.Code.Chains.{link_at}
-use Rattle.typing.proofs.Binding.{link_start, link_more, link_end}
 use Rattle.typing.proofs.bodies.record_at.Given as goal
 
 abbrev pub invariant-loop-i : goal.invariant-loop-i

@@ -1,5 +1,4 @@
 -- Nothing is known but whether a sum is asked for.
-use borrow.Author.Rules.{rules}
 use Rattle.typing.proofs.gathering.none_yet.Goals as goal
 
 pub returns : goal.returns

@@ -1,5 +1,5 @@
 use mathlib.Core.Path.{◌≡◌, sym, ◌∙◌, ap}
-use Prim.Native.Nat.{ℕ, ◌-◌, ◌/◌, ◌≤◌, ◌<◌}
+use Prim.Native.Nat.{ℕ, ◌/◌, ◌≤◌, ◌<◌}
 use native.Mathlib.Omega.{arith}
 use borrow.Author.Rules.{rules}
 use borrow.Author.Tests.{not-true, not-false}
@@ -10,7 +10,7 @@ use Rattle.term.proofs.Scan.{children_few}
 use Rattle.typing.specs.Code.Chains.{budget_of, around_of}
 use Rattle.typing.proofs.Passing.{found_none, no_head, no_budget}
 use Rattle.typing.specs.Code.Verdicts.{Typable}
-use Rattle.typing.proofs.Walked.{Walks, leaf_found, walked_none, enterable, ready, child_typable, child-at, child-long, child-end, gatherable, walked_on, walked-fails, walked-ninth, walked_all}
+use Rattle.typing.proofs.Walked.{leaf_found, walked_none, enterable, ready, child_typable, child-at, child-long, child-end, gatherable, walked_on, walked-fails, walked-ninth, walked_all}
 use Rattle.typing.proofs.infer.+type_part.Goals as goal
 
 pub returns-then-budget_of-eq0 : goal.returns-then-budget_of-eq0

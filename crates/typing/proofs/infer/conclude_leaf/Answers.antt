@@ -1,6 +1,5 @@
 -- A bound basis has the index of its sum, a type name's own word is its index; of any other name the declarations have the words.
 use mathlib.Core.List.{[]}
-use borrow.Author.Rules.{rules}
 use Rattle.typing.proofs.Putting.{entry-holds, leaf_put, word-put, bound-put}
 use Rattle.typing.proofs.infer.conclude_leaf.Goals as goal
 

@@ -1,6 +1,5 @@
 -- One run behind the other.
 use native.Mathlib.Omega.{arith}
-use borrow.Author.Rules.{rules}
 use Rattle.typing.proofs.Putting.{both-put}
 use Rattle.typing.proofs.lookup.put_both.Goals as goal
 

@@ -1,7 +1,6 @@
 -- There is room, so that the run is copied into its place.
 use mathlib.Core.Path.{refl}
 use native.Mathlib.Nat.{add-sub_cancel_left}
-use borrow.Author.Rules.{rules}
 use Rattle.words.proofs.Runs.{laid_copied}
 use Rattle.typing.proofs.Lying.{run_length}
 use Rattle.typing.proofs.lookup.put_words.Goals as goal

@@ -1,5 +1,5 @@
 -- Each test is one of the definition.
-use borrow.Author.Tests.{le-leb, lt-leb, not-true, not-false}
+use borrow.Author.Tests.{le-leb, lt-leb}
 use Rattle.typebook.specs.Code.Lines.{short_both}
 use Rattle.typing.proofs.rules.all_well.Goals as goal
 

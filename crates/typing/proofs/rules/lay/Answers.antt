@@ -2,7 +2,6 @@
 use mathlib.Core.Path.{sym, ◌∙◌}
 use native.Mathlib.Omega.{arith}
 use borrow.Author.Rules.{rules}
-use borrow.Author.Tests.{eqb-true}
 use lib.Seq.{length-take-le}
 use Rattle.typing.proofs.Concluding.{placed, in_place, inserted, made_room, sides_made}
 use Rattle.typing.proofs.rules.lay.Goals as goal

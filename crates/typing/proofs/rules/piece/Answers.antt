@@ -1,7 +1,6 @@
 -- Each digit by its arm; any other stands for no index.
 use mathlib.Core.Path.{sym}
 use Rattle.typing.proofs.Concluding.{no_piece}
-use borrow.Author.Rules.{rules}
 use Rattle.typing.proofs.rules.piece.Goals as goal
 
 pub returns-in-1 : goal.returns-in-1

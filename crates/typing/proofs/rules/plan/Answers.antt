@@ -2,7 +2,6 @@
 use Prim.Native.Nat.{◌/◌, ◌%◌}
 use native.Mathlib.Omega.{arith}
 use Rattle.typing.proofs.Concluding.{place-few, plan_is}
-use borrow.Author.Rules.{rules}
 use Rattle.typing.proofs.rules.plan.Goals as goal
 
 pub side_size-rows-requires : goal.side_size-rows-requires

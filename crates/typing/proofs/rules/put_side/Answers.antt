@@ -1,9 +1,8 @@
 -- One run behind the other.
 use mathlib.Core.Path.{◌∙◌}
-use mathlib.Core.Logic.{⊎_elim, inl, inr}
+use mathlib.Core.Logic.{inl, inr}
 use lib.ListN.{length-set}
 use Rattle.typing.proofs.Concluding.{put-plain, put-product}
-use borrow.Author.Rules.{rules}
 use Rattle.typing.proofs.rules.put_side.Goals as goal
 use Rattle.typing.proofs.rules.put_side.Goals.{«then-product+else-p-ne0», else-product}
 

@@ -1,7 +1,6 @@
 -- The part of the words is the run.
 use Rattle.words.proofs.Runs.{added}
 use native.Mathlib.Nat.{add-sub_cancel_left}
-use borrow.Author.Rules.{rules}
 use Rattle.typing.proofs.sorts.put_run.Goals as goal
 
 pub returns : goal.returns

@@ -1,7 +1,6 @@
 -- The two parts of the stack are the two runs.
 use mathlib.Core.Path.{◌∙◌}
 use native.Mathlib.Nat.{add-sub_cancel_left}
-use borrow.Author.Rules.{rules}
 use Rattle.typing.proofs.sorts.same_runs.Goals as goal
 
 pub returns : goal.returns

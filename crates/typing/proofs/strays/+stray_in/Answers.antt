@@ -1,9 +1,6 @@
 use mathlib.Core.Path.{sym, ◌∙◌}
-use Prim.Native.Nat.{ℕ, ◌-◌, ◌≤◌, ◌<◌}
 use native.Mathlib.Omega.{arith}
-use borrow.Author.Rules.{rules}
-use lib.ListN.{length}
-use Rattle.typing.proofs.Straying.{Passing, Headed, bodies-few, past-none, part-there, looked_shallow, looked_unknown, looked_itself, looked_child, looked_on, looked_all}
+use Rattle.typing.proofs.Straying.{Headed, bodies-few, past-none, part-there, looked_shallow, looked_unknown, looked_itself, looked_child, looked_on, looked_all}
 use Rattle.typing.proofs.strays.+stray_in.Goals as goal
 
 pub returns-then-budget-eq0 : goal.returns-then-budget-eq0

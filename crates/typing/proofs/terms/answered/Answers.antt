@@ -1,7 +1,6 @@
 -- A class below 3 is no type's; the words of any other are laid over zeros.
 use mathlib.Core.Path.{sym}
 use native.Mathlib.Omega.{arith}
-use borrow.Author.Rules.{rules}
 use lib.Seq.{length-take-le}
 use Rattle.typing.proofs.Answering.{no_type, a_type}
 use Rattle.typing.proofs.terms.answered.Goals as goal

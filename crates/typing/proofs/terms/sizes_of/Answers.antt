@@ -1,6 +1,5 @@
 -- Each arm says what the definition says of its constructor.
 use mathlib.Core.Path.{sym, ap}
-use borrow.Author.Rules.{rules}
 use Rattle.typing.specs.Answers.{sizesOf}
 use Rattle.typing.proofs.terms.sizes_of.Goals as goal
 

@@ -1,8 +1,6 @@
 -- Each answer is that of the first test that fails, or what the words are found to be.
 use mathlib.Core.Path.{sym, ◌∙◌}
 use native.Mathlib.Omega.{arith}
-use borrow.Author.Rules.{rules}
-use borrow.Author.Tests.{not-true, not-false}
 use lib.Seq.{length-take-le}
 use Rattle.term.proofs.TermTest.{term-past}
 use Rattle.typing.proofs.Answering.{wrong_size, bad_declarations, no_term}

@@ -1,6 +1,5 @@
 -- Each answer is that of the first test that fails, or what the walk found.
 use native.Mathlib.Omega.{arith}
-use borrow.Author.Rules.{rules}
 use Rattle.typing.proofs.Deciding.{part_only, undeclared, typed-term, no_term, stray-term, untyped-term}
 use Rattle.typing.proofs.terms.typed_in.Goals as goal
 
