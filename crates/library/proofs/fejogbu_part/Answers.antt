@@ -5,4 +5,4 @@ use lib.ListN.{length}
 use Rattle.library.proofs.fejogbu_part.Goals as goal
 
 pub returns : goal.returns
-returns c = (ap length c.part_at-found.ensures.same, c.part_at-found.ensures.depth)
+returns c = record { returned = ap length c.part_at-found.ensures.same; deep = c.part_at-found.ensures.depth }

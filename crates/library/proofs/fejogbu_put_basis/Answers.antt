@@ -8,4 +8,4 @@ use Rattle.library.proofs.fejogbu_put_basis.Goals as goal
 pub returns : goal.returns
 returns c =
     let r = c.put_basis.ensures in
-    (c.put_number.ensures ∙ ap put_number r.0, left_by _ _ _ _ _ r.0 r.1)
+    record { returned = c.put_number.ensures ∙ ap put_number r.value; declared = left_by _ _ _ _ _ r.value r.ds_after }

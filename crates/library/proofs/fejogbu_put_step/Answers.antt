@@ -11,13 +11,19 @@ pub returns-then-side-eq1 : goal.returns-then-side-eq1
 returns-then-side-eq1 c =
     let h = c.if-side-eq1.true in
     let s = c.put_step.ensures in
-    rw (eq-eqb _ _ h) (c.one_or_none.ensures ∙ ap (λ (t : Bool). cond {A = ℕ} t 1 0) s.0, rw (side_left _ h) s.1)
+    let z = eq-eqb _ _ h in
+    record { returned = rw z (c.one_or_none.ensures ∙ ap (λ (t : Bool). cond {A = ℕ} t 1 0) s.0); stepped = rw (z, side_left _ h) s.1 }
 
 pub returns-then-side-eq2 : goal.returns-then-side-eq2
 returns-then-side-eq2 c =
     let h = c.if-side-eq2.true in
     let s = c.put_step-then-side-eq2.ensures in
-    rw (ne_eqb _ _ c.if-side-eq1.false, eq-eqb _ _ h) (c.one_or_none-then-side-eq2.ensures ∙ ap (λ (t : Bool). cond {A = ℕ} t 1 0) s.0, rw (side_right _ h) s.1)
+    let n = ne_eqb _ _ c.if-side-eq1.false in
+    let z = eq-eqb _ _ h in
+    record { returned = rw (n, z) (c.one_or_none-then-side-eq2.ensures ∙ ap (λ (t : Bool). cond {A = ℕ} t 1 0) s.0); stepped = rw (n, z, side_right _ h) s.1 }
 
 pub returns : goal.returns
-returns c = rw (ne_eqb _ _ c.if-side-eq1.false, ne_eqb _ _ c.if-side-eq2.false) (refl, refl)
+returns c =
+    let n = ne_eqb _ _ c.if-side-eq1.false in
+    let z = ne_eqb _ _ c.if-side-eq2.false in
+    record { returned = rw (n, z); stepped = rw (n, z) }

@@ -6,10 +6,10 @@ use Rattle.library.specs.Numbers.{answer_numbers}
 use Rattle.library.proofs.fejogbu_replay.Goals as goal
 
 pub returns-then-answer-ne6 : goal.returns-then-answer-ne6
-returns-then-answer-ne6 c = rw (ne_eqb _ _ c.if-answer-ne6.true) (refl, (refl, (refl, refl)))
+returns-then-answer-ne6 c = let z = ne_eqb _ _ c.if-answer-ne6.true in record { returned = rw z; answered = rw z; lefts = rw z; rights = rw z }
 
 pub returns : goal.returns
 returns c =
     let r = c.replay.ensures in
-    rw (eq-eqb _ _ c.if-answer-ne6.false)
-    (refl, (c.put_answer.ensures ∙ ap answer_numbers r.0, (r.1.0.0, r.1.0.1)))
+    let z = eq-eqb _ _ c.if-answer-ne6.false in
+    record { returned = rw z; answered = rw z (c.put_answer.ensures ∙ ap answer_numbers r.answer); lefts = rw z r.slices.0; rights = rw z r.slices.1 }

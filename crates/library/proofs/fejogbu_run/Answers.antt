@@ -6,10 +6,10 @@ use Rattle.library.specs.Numbers.{answer_numbers}
 use Rattle.library.proofs.fejogbu_run.Goals as goal
 
 pub returns-then-answer-ne6 : goal.returns-then-answer-ne6
-returns-then-answer-ne6 c = rw (ne_eqb _ _ c.if-answer-ne6.true) (refl, (refl, (refl, refl)))
+returns-then-answer-ne6 c = let z = ne_eqb _ _ c.if-answer-ne6.true in record { returned = rw z; answered = rw z; lefts = rw z; rights = rw z }
 
 pub returns : goal.returns
 returns c =
     let r = c.run_steps.ensures in
-    rw (eq-eqb _ _ c.if-answer-ne6.false)
-    (refl, (c.put_answer.ensures ∙ ap answer_numbers r.0, (r.1, r.2)))
+    let z = eq-eqb _ _ c.if-answer-ne6.false in
+    record { returned = rw z; answered = rw z (c.put_answer.ensures ∙ ap answer_numbers r.0); lefts = rw z r.1; rights = rw z r.2 }

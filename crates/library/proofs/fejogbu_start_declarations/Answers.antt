@@ -8,4 +8,4 @@ use Rattle.library.proofs.fejogbu_start_declarations.Goals as goal
 pub returns : goal.returns
 returns c =
     let r = c.start.ensures in
-    (c.put_number.ensures ∙ ap put_number r.0, left_by _ _ _ _ _ r.0 r.1)
+    record { returned = c.put_number.ensures ∙ ap put_number r.0; declared = left_by _ _ _ _ _ r.0 r.1 }

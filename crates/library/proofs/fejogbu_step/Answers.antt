@@ -6,9 +6,10 @@ use Rattle.library.specs.Numbers.{step_numbers}
 use Rattle.library.proofs.fejogbu_step.Goals as goal
 
 pub returns-then-answer-ne5 : goal.returns-then-answer-ne5
-returns-then-answer-ne5 c = rw (ne_eqb _ _ c.if-answer-ne5.true) (refl, (refl, refl))
+returns-then-answer-ne5 c = let z = ne_eqb _ _ c.if-answer-ne5.true in record { returned = rw z; answered = rw z; terms = rw z }
 
 pub returns : goal.returns
 returns c =
     let r = c.take_step-a.ensures in
-    rw (eq-eqb _ _ c.if-answer-ne5.false) (refl, (c.copy_numbers.ensures ∙ ap step_numbers r.0, r.1))
+    let z = eq-eqb _ _ c.if-answer-ne5.false in
+    record { returned = rw z; answered = rw z (c.copy_numbers.ensures ∙ ap step_numbers r.0); terms = rw z r.1 }

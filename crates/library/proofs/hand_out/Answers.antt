@@ -29,4 +29,4 @@ returns c =
     let sized : let a = c.args in of_sizes a.answer.now a.rows.now a.columns.now ≡ true = sym c.are_sizes.ensures ∙ c.if-not-are_sizes.false in
     let z = sized in
     let w = c.put_words.ensures in
-    record { returned = rw z; c = rw z c.put_numbers.ensures; row_words = rw z w.0; column_words = rw z w.1 }
+    record { returned = rw z; numbers = rw z c.put_numbers.ensures; row_words = rw z w.0; column_words = rw z w.1 }

@@ -8,10 +8,10 @@ use Rattle.file.proofs.replay.replay.Goals as goal
 pub returns-then-read-ne0 : goal.returns-then-read-ne0
 returns-then-read-ne0 c =
     let x = refused _ _ _ _ _ refl refl c.read_file-read.ensures c.if-read-ne0.true c.refused_with.ensures in
-    (x.answer, ((x.left_slice, x.right_slice), (behind x, (exactly x, (named x, (equal_sides _, equal_ends x))))))
+    record { answer = x.answer; slices = (x.left_slice, x.right_slice); demand1 = behind x; demand2 = exactly x; otherwise = named x; demand3 = equal_sides _; keeps = equal_ends x }
 
 pub returns : goal.returns
 returns c =
     let run = c.run_steps.ensures in
     let x = ran _ _ _ _ _ refl refl c.read_file-read.ensures c.if-read-ne0.false run.0 run.1 run.2 in
-    (x.answer, ((x.left_slice, x.right_slice), (behind x, (exactly x, (named x, (equal_sides _, equal_ends x))))))
+    record { answer = x.answer; slices = (x.left_slice, x.right_slice); demand1 = behind x; demand2 = exactly x; otherwise = named x; demand3 = equal_sides _; keeps = equal_ends x }
