@@ -19,7 +19,9 @@ import sys
 W = r"[^\s(){}.;,@\"«»\[\]\\`]+"
 TOKEN = re.compile(r"--[^\n]*|\"(?:[^\"\\]|\\.)*\"|«[^»]*»|" + W)
 IN_TEXT = re.compile(W)
-DECLARED = re.compile(r"(?m)^ *(?:(?:abbrev|unfoldable|pub) )*(" + W + r")(?: (?=: )|(?: \([^)]*\)| \{[^}]*\})* : )")
+BINDERS = re.compile(r"\([^)]*\)|\{[^}]*\}")
+NO_HEAD = re.compile(r"[=,;→(){}λ]|\b(let|use|in)\b")
+KEYWORDS = {"pub", "abbrev", "unfoldable", "ruleset", "data", "record", "where"}
 SIGN = re.compile(r"[^\w'*]")
 # Words of the library that a lemma's name may join.
 LIBRARY = set(
@@ -71,12 +73,23 @@ def respelled(name, words):
     return out
 
 
+def declared_in(text):
+    """The names that stand in front of a colon where a line begins: of definitions, fields and constructors, several on a line at times."""
+    found = set()
+    for line in re.sub(r"--[^\n]*", "", text).split("\n"):
+        head, colon, _ = line.partition(" : ")
+        head = BINDERS.sub(" ", head)
+        if colon and not NO_HEAD.search(head):
+            found |= {it for it in head.split() if it not in KEYWORDS and it.strip("_")}
+    return found
+
+
 def declared_names():
     """The names that specs/ and the files of lemmas declare, and those of specs/ apart."""
     names, specs = set(), set()
     for path in antt_files():
         if is_lemma_file(path):
-            found = set(DECLARED.findall(re.sub(r"--[^\n]*", "", read(path))))
+            found = declared_in(read(path))
             names |= found
             if "/specs/" in path:
                 specs |= found

@@ -2,6 +2,7 @@
 // which C and Rust can call. Nothing is relied on. Where a function hands out an answer as numbers, a slice for it of another size is refused: the function returns 1 and touches
 // nothing.
 #![tactic(auto)]
+
 ghost use Rattle.std.specs.Prelude.{◌≡◌, cond, ◌&&◌, eqb, length, get_or};
 ghost use Rattle.term.specs.Parts.{part, part_depth};
 ghost use Rattle.declarations.specs.Declarations.{is_index, is_variable};

@@ -1,5 +1,6 @@
 // The reading of a file into lent words.
 #![tactic(auto)]
+
 mod declaring;
 mod faults;
 pub mod files;

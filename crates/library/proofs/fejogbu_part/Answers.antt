@@ -1,6 +1,5 @@
 -- What the lookup hands back, as its length and its depth.
 use mathlib.Core.Path.{ap}
-use borrow.Author.Rules.{rules}
 use lib.ListN.{length}
 use Rattle.library.proofs.fejogbu_part.Goals as goal
 

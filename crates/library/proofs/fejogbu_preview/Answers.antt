@@ -1,5 +1,4 @@
 -- What is handed out is what was asked for.
-use borrow.Author.Rules.{rules}
 use Rattle.library.proofs.fejogbu_preview.Goals as goal
 
 pub returns : goal.returns

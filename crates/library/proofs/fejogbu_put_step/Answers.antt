@@ -1,8 +1,7 @@
 -- A side is one of two, and then there is room or not.
-use mathlib.Core.Path.{refl, ap, ◌∙◌}
+use mathlib.Core.Path.{ap, ◌∙◌}
 use mathlib.Core.Bool.{Bool, cond}
 use Prim.Native.Nat.{ℕ}
-use borrow.Author.Rules.{rules}
 use borrow.Author.Tests.{eq-eqb, ne_eqb}
 use Rattle.library.proofs.Tests.{side_left, side_right}
 use Rattle.library.proofs.fejogbu_put_step.Goals as goal

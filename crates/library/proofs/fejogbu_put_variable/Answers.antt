@@ -1,6 +1,5 @@
 -- The constructor's answer, by its number.
 use mathlib.Core.Path.{ap, ◌∙◌}
-use borrow.Author.Rules.{rules}
 use Rattle.library.specs.Numbers.{put_number}
 use Rattle.library.proofs.Tests.{left_by}
 use Rattle.library.proofs.fejogbu_put_variable.Goals as goal

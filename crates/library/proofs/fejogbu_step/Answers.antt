@@ -1,6 +1,5 @@
 -- An answer of another size is refused; else the numbers are those of the answer, and the slice is as it left it.
-use mathlib.Core.Path.{refl, ap, ◌∙◌}
-use borrow.Author.Rules.{rules}
+use mathlib.Core.Path.{ap, ◌∙◌}
 use borrow.Author.Tests.{eq-eqb, ne_eqb}
 use Rattle.library.specs.Numbers.{step_numbers}
 use Rattle.library.proofs.fejogbu_step.Goals as goal

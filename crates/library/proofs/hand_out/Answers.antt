@@ -1,8 +1,6 @@
 -- Slices of other sizes are refused; else they are filled from what is told.
 use mathlib.Core.Path.{◌≡◌, sym, ◌∙◌}
 use mathlib.Core.Bool.{true}
-use borrow.Author.Rules.{rules}
-use borrow.Author.Tests.{not-true, not-false}
 use lib.ListN.{length}
 use Rattle.library.specs.Numbers.{of_sizes}
 use Rattle.library.proofs.Tests.{three_sizes}

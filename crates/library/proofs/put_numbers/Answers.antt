@@ -1,5 +1,4 @@
 -- The numbers as the slice wants them, with those of the kind.
-use borrow.Author.Rules.{rules}
 use Rattle.library.proofs.put_numbers.Goals as goal
 
 pub returns : goal.returns

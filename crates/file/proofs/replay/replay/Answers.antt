@@ -2,7 +2,6 @@
 use mathlib.Core.Path.{refl}
 use Rattle.file.proofs.Performed.{refused, ran}
 use Rattle.file.proofs.Clauses.{behind, exactly, named, equal_sides, equal_ends}
-use borrow.Author.Rules.{rules}
 use Rattle.file.proofs.replay.replay.Goals as goal
 
 pub returns-then-read-ne0 : goal.returns-then-read-ne0

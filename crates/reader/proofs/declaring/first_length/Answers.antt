@@ -2,7 +2,6 @@
 use mathlib.Core.Path.{◌∙◌}
 use native.Mathlib.Omega.{arith}
 use borrow.Author.Tests.{ne_eqb}
-use borrow.Author.Rules.{rules}
 use Rattle.reader.proofs.declaring.first_length.Goals as goal
 
 pub returns-then-kind-eq3 : goal.returns-then-kind-eq3

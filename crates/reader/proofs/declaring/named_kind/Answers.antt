@@ -2,7 +2,6 @@
 use mathlib.Core.Path.{◌∙◌}
 use borrow.Author.Tests.{eq-eqb, ne_eqb}
 use Rattle.reader.specs.Code.Lines.{kind_in}
-use borrow.Author.Rules.{rules}
 use Rattle.reader.proofs.declaring.named_kind.Goals as goal
 
 pub returns-then-k-eq1 : goal.returns-then-k-eq1

@@ -5,7 +5,6 @@ use native.Mathlib.Omega.{arith}
 use lib.ListN.{length}
 use lib.Seq.{length-take-le}
 use Rattle.reader.proofs.Named.{first-within, basis_words_put, marked-words-put, variable_words_put}
-use borrow.Author.Rules.{rules}
 use Rattle.reader.proofs.declaring.put_words.Goals as goal
 
 pub returns-then-kind-eq9 : goal.returns-then-kind-eq9

@@ -1,7 +1,6 @@
 -- All tokens, or those behind a letter and a space.
 use native.Mathlib.Omega.{arith}
 use Rattle.reader.proofs.Behind.{basis_words_lem, behind-none, behind_unspaced, behind-tokens}
-use borrow.Author.Rules.{rules}
 use Rattle.reader.proofs.declaring.read_words.Goals as goal
 
 pub returns-then-kind-eq9 : goal.returns-then-kind-eq9

@@ -1,6 +1,5 @@
 -- 2, then 3.
 use Rattle.reader.proofs.Entered.{too_long, bad_byte, good_bytes}
-use borrow.Author.Rules.{rules}
 use Rattle.reader.proofs.files.bytes_fault.Goals as goal
 
 pub returns-then-bytes-gt65536 : goal.returns-then-bytes-gt65536

@@ -2,7 +2,6 @@
 use mathlib.Core.Path.{◌∙◌}
 use borrow.Author.Tests.{eq-eqb, ne_eqb}
 use Rattle.reader.specs.Code.Holding.{ended_in}
-use borrow.Author.Rules.{rules}
 use Rattle.reader.proofs.files.ended_in.Goals as goal
 
 pub returns-then-s-ne5 : goal.returns-then-s-ne5

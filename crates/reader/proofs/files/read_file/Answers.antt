@@ -1,8 +1,6 @@
 -- 1, then the reading, and zeros behind a fault.
 use mathlib.Core.Path.{sym, ◌∙◌}
-use borrow.Author.Tests.{not-true, not-false}
 use Rattle.reader.proofs.Entered.{all-sized, unsized, done-fault, done-file}
-use borrow.Author.Rules.{rules}
 use Rattle.reader.proofs.files.read_file.Goals as goal
 
 pub returns-then-not-are_sized : goal.returns-then-not-are_sized

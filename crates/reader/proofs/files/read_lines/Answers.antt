@@ -1,12 +1,10 @@
 use mathlib.Core.Path.{sym, ◌∙◌, ap}
-use Prim.Native.Nat.{◌-◌}
 use native.Mathlib.Omega.{arith}
 use lib.ListN.{length}
 use Rattle.words.proofs.Runs.{length-cleared}
 use Rattle.reader.proofs.Behind.{cleared-all}
 use Rattle.reader.proofs.Entered.{lines-found}
-use Rattle.reader.proofs.Walked.{Standing, Within, standing-start, in_bounds, line_at, line_refused, line_taken_lem, ends, found-fault}
-use borrow.Author.Rules.{rules}
+use Rattle.reader.proofs.Walked.{Within, standing-start, in_bounds, line_at, line_refused, line_taken_lem, ends, found-fault}
 use Rattle.reader.proofs.files.read_lines.Goals as goal
 
 pub returns-then-bad-ne0 : goal.returns-then-bad-ne0

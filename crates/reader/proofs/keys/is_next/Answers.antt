@@ -1,6 +1,5 @@
 -- A key may come from its first stage on, up to its last.
 use Rattle.reader.proofs.Keyed.{too_early, by_last}
-use borrow.Author.Rules.{rules}
 use Rattle.reader.proofs.keys.is_next.Goals as goal
 
 pub returns-then-stage-digit : goal.returns-then-stage-digit

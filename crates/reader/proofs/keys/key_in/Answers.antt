@@ -1,9 +1,6 @@
-use mathlib.Core.Path.{◌≡◌, refl}
-use Prim.Native.Nat.{◌-◌, ◌≤◌}
+use mathlib.Core.Path.{refl}
 use native.Mathlib.Omega.{arith}
-use lib.ListN.{drop}
-use Rattle.format.specs.Reading.{first_key, key_of}
-use Rattle.reader.specs.Code.Keys as Code
+use Rattle.format.specs.Reading.{key_of}
 use Rattle.reader.proofs.Keyed.{Placed, placed, tested, key_found, key_passed, no_key}
 use borrow.Author.Rules.{rules}
 use Rattle.reader.proofs.keys.key_in.Goals as goal

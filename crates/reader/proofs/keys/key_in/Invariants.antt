@@ -1,12 +1,9 @@
 -- The invariant: the key is the first of those from the k-th on.
-use mathlib.Core.Path.{◌≡◌, refl}
+use mathlib.Core.Path.{◌≡◌}
 use Prim.Native.Nat.{◌-◌, ◌≤◌}
-use native.Mathlib.Omega.{arith}
 use lib.ListN.{drop}
 use Rattle.format.specs.Reading.{first_key, key_of}
 use Rattle.reader.specs.Code.Keys as Code
-use Rattle.reader.proofs.Keyed.{Placed, placed, tested, key_found, key_passed, no_key}
-use borrow.Author.Rules.{rules}
 use Rattle.reader.proofs.keys.key_in.Given as goal
 
 abbrev pub invariant-loop-k : goal.invariant-loop-k

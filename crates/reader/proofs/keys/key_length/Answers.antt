@@ -5,7 +5,6 @@ use lib.ListN.{length}
 use Rattle.format.specs.Files.{key_text}
 use Rattle.reader.specs.Code.Keys.{key_at}
 use Rattle.reader.proofs.Keyed.{digit-is}
-use borrow.Author.Rules.{rules}
 use Rattle.reader.proofs.keys.key_length.Goals as goal
 
 pub returns : goal.returns

@@ -4,7 +4,6 @@ use Rattle.words.specs.Listed.{all_up_to}
 use Rattle.format.specs.Reading.{stage_after}
 use Rattle.reader.specs.Code.Keys.{key_at}
 use Rattle.reader.proofs.Keyed.{digit-is}
-use borrow.Author.Rules.{rules}
 use Rattle.reader.proofs.keys.stage_after.Goals as goal
 
 pub returns : goal.returns

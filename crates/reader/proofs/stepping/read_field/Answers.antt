@@ -5,7 +5,6 @@ use Rattle.cursor.proofs.Spans.{span_end}
 use Rattle.text.specs.Pieces.{space}
 use Rattle.text.proofs.Tokened.{piece-within}
 use Rattle.reader.proofs.Fields.{field_missing, field-bad, field_over, field-number}
-use borrow.Author.Rules.{rules}
 use Rattle.reader.proofs.stepping.read_field.Goals as goal
 
 pub returns-then-text-at : goal.returns-then-text-at

@@ -1,11 +1,6 @@
-use mathlib.Core.Path.{◌≡◌}
-use Prim.Native.Nat.{◌-◌, ◌≤◌}
 use native.Mathlib.Omega.{arith}
-use lib.ListN.{length, take, length-set}
-use Rattle.term.specs.declared.parts.Side.{Side}
-use Rattle.reader.specs.declared.stepping.Sided.TheVariants as S
-use Rattle.reader.specs.Code.Lines.{SideRead}
-use Rattle.reader.proofs.Fields.{Row, sided, and, whole, bad-field, all_fields}
+use lib.ListN.{length-set}
+use Rattle.reader.proofs.Fields.{sided, and, whole, bad-field, all_fields}
 use borrow.Author.Rules.{rules}
 use Rattle.reader.proofs.stepping.read_fields.Goals as goal
 

@@ -1,13 +1,11 @@
 -- The invariant: so many fields are read, and their numbers stand in front.
 use mathlib.Core.Path.{◌≡◌}
 use Prim.Native.Nat.{◌-◌, ◌≤◌}
-use native.Mathlib.Omega.{arith}
-use lib.ListN.{length, take, length-set}
+use lib.ListN.{length, take}
 use Rattle.term.specs.declared.parts.Side.{Side}
 use Rattle.reader.specs.declared.stepping.Sided.TheVariants as S
 use Rattle.reader.specs.Code.Lines.{SideRead}
-use Rattle.reader.proofs.Fields.{Row, sided, and, whole, bad-field, all_fields}
-use borrow.Author.Rules.{rules}
+use Rattle.reader.proofs.Fields.{Row}
 use Rattle.reader.proofs.stepping.read_fields.Given as goal
 
 abbrev pub invariant-loop-i : goal.invariant-loop-i

@@ -1,7 +1,6 @@
 -- The first field is one letter.
 use native.Mathlib.Omega.{arith}
 use Rattle.reader.proofs.Fields.{no_side, letter-there, left_side, right_side, other_letter}
-use borrow.Author.Rules.{rules}
 use Rattle.reader.proofs.stepping.read_side.Goals as goal
 
 pub returns-then-span-ne1 : goal.returns-then-span-ne1

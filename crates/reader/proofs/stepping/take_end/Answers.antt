@@ -2,7 +2,6 @@
 use mathlib.Core.Path.{sym, ◌∙◌}
 use native.Mathlib.Omega.{arith}
 use Rattle.reader.proofs.Fields.{no_end, other_end, same_end}
-use borrow.Author.Rules.{rules}
 use Rattle.reader.proofs.stepping.take_end.Goals as goal
 
 pub returns-in_default : goal.returns-in_default

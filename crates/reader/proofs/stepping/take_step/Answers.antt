@@ -1,7 +1,5 @@
 -- A step line: its side, and its numbers.
-use borrow.Author.Tests.{not-true, not-false}
 use Rattle.reader.proofs.Fields.{bad-side, no_room, no_step, a_step}
-use borrow.Author.Rules.{rules}
 use Rattle.reader.proofs.stepping.take_step.Goals as goal
 
 pub returns-then-k-eq-MOST_STEPS : goal.returns-then-k-eq-MOST_STEPS

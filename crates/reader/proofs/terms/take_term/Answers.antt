@@ -1,22 +1,19 @@
 -- The tokens are of the form, and their words a term.
 use mathlib.Core.Path.{◌≡◌, sym, ◌∙◌, ap}
 use lib.ListN.{length}
-use borrow.Author.Tests.{not-true, not-false}
 use Rattle.words.proofs.Runs.{length-cleared}
 use Rattle.text.proofs.Told.{no_tokens, some_words}
 use Rattle.format.proofs.Padded.{stored-size}
 use Rattle.reader.proofs.Behind.{no_tokens_placed, no_term_placed, term_placed}
-use borrow.Author.Rules.{rules}
 use Rattle.reader.proofs.terms.take_term.Goals as goal
 
 pub returns-in_default : goal.returns-in_default
 returns-in_default c =
-    let kept : length c.read_tokens.new.out ≡ length c.args.out.now = ap length c.read_tokens.ensures.1 ∙ stored-size _ _ _ ∙ ap length c.clear_from.ensures ∙ length-cleared _ _ in
-    (
-  kept,
-  λ f s e. no_tokens_placed f _ (no_tokens _ (sym c.read_tokens.ensures.0 ∙ c.in_default.is))
-      c.refused.ensures,
-)
+    let kept : length c.read_tokens.new.out ≡ length c.args.out.now = ap length c.read_tokens.ensures.1 ∙ stored-size _ _ _ ∙ ap length c.clear_from.ensures ∙ length-cleared _ _ in (
+      kept,
+      λ f s e. no_tokens_placed f _ (no_tokens _ (sym c.read_tokens.ensures.0 ∙ c.in_default.is))
+          c.refused.ensures,
+    )
 
 pub returns-then-not-is_term : goal.returns-then-not-is_term
 returns-then-not-is_term c =

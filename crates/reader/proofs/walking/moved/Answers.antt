@@ -1,5 +1,4 @@
 -- Field by field.
-use borrow.Author.Rules.{rules}
 use Rattle.reader.proofs.walking.moved.Goals as goal
 
 pub returns : goal.returns

@@ -1,10 +1,8 @@
 -- The key, whether it may come next, and its value.
 use mathlib.Core.Path.{refl, sym, ◌∙◌}
 use native.Mathlib.Omega.{arith}
-use borrow.Author.Tests.{not-true, not-false}
 use Rattle.reader.proofs.Keyed.{key_within, line_by}
 use Rattle.reader.proofs.Held.{disordered, line_after}
-use borrow.Author.Rules.{rules}
 use Rattle.reader.proofs.walking.take_line.Goals as goal
 
 pub returns-then-not-is_next : goal.returns-then-not-is_next

@@ -2,7 +2,6 @@
 use mathlib.Core.Path.{refl}
 use Rattle.words.proofs.Listed.{Others, others_from}
 use Rattle.reader.proofs.Held.{arm, types_valued, basis_valued, variable_valued, left_valued, right_valued, step_valued, last_key, end_valued}
-use borrow.Author.Rules.{rules}
 use Rattle.reader.proofs.walking.take_value.Goals as goal
 
 pub returns-in-0 : goal.returns-in-0
