@@ -1,7 +1,8 @@
 // The declarations of a case, as numbers: how many types; how many bases, and of each the length and the words of its index; how many
 // variables, and of each the kind (0 scalar, 1 ket, 2 bra, 3 operator, and 4 more where it is marked) and the lengths and words of both indices.
-use crate::input::{narrow, next_count, next_number, next_words};
+use crate::input::{Input, narrow, next_count, next_number, next_words};
 use declarations::constructor::{Put, put_basis, put_variable, start};
+use std::io;
 
 // What the constructor refuses is to be refused by whoever is lent the declarations, so these are made bad by any reading: 33 types.
 fn kept(ds: &mut [u16; 6179], put: Put) {
@@ -12,47 +13,50 @@ fn kept(ds: &mut [u16; 6179], put: Put) {
 }
 
 // An index of more words than there is room for is declared with as many as there is: too many for any index.
-fn basis(ds: &mut [u16; 6179]) {
+fn basis(input: &mut Input, ds: &mut [u16; 6179]) -> io::Result<()> {
     let mut room = [0u16; 4096];
-    let index = next_words(&mut room);
+    let index = next_words(input, &mut room)?;
     let put = put_basis(ds, index);
     kept(ds, put);
+    Ok(())
 }
 
-fn variable(ds: &mut [u16; 6179]) {
+fn variable(input: &mut Input, ds: &mut [u16; 6179]) -> io::Result<()> {
     let mut room = [0u16; 4096];
     let mut more_room = [0u16; 4096];
-    let kind = narrow(next_number());
-    let first = next_words(&mut room);
-    let second = next_words(&mut more_room);
+    let kind = narrow(next_number(input)?);
+    let first = next_words(input, &mut room)?;
+    let second = next_words(input, &mut more_room)?;
     let put = put_variable(ds, kind, first, second);
     kept(ds, put);
+    Ok(())
 }
 
-fn entry(ds: &mut [u16; 6179], is_basis: bool) {
+fn entry(input: &mut Input, ds: &mut [u16; 6179], is_basis: bool) -> io::Result<()> {
     if is_basis {
-        basis(ds);
+        basis(input, ds)
     } else {
-        variable(ds);
+        variable(input, ds)
     }
 }
 
 // The bases of a case, or its variables: how many, and then each.
-fn entries(ds: &mut [u16; 6179], are_bases: bool) {
-    let n = next_count();
+fn entries(input: &mut Input, ds: &mut [u16; 6179], are_bases: bool) -> io::Result<()> {
+    let n = next_count(input)?;
     let mut i = 0;
     while i < n {
-        entry(ds, are_bases);
+        entry(input, ds, are_bases)?;
         i += 1;
     }
+    Ok(())
 }
 
 // Puts a case's declarations together by their constructor.
-pub fn next_declarations() -> [u16; 6179] {
+pub fn next_declarations(input: &mut Input) -> io::Result<[u16; 6179]> {
     let mut ds = [0u16; 6179];
-    let put = start(&mut ds, next_number());
+    let put = start(&mut ds, next_number(input)?);
     kept(&mut ds, put);
-    entries(&mut ds, true);
-    entries(&mut ds, false);
-    ds
+    entries(input, &mut ds, true)?;
+    entries(input, &mut ds, false)?;
+    Ok(ds)
 }

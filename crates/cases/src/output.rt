@@ -2,29 +2,33 @@
 ghost use Rattle.std.specs.Prelude.{◌≡◌};
 
 use crate::input::front;
-use libc::STDOUT_FILENO;
+use std::io::{self, LineWriter, Stdout, Write};
+
+// Standard output, which every function that writes is handed. A line is passed on when it ends, so whoever hands in cases one by one gets
+// each answer at once.
+pub type Output = LineWriter<Stdout>;
 
 // A byte; a number that is none is not written.
-pub fn byte(value: usize) {
+pub fn byte(output: &mut Output, value: usize) -> io::Result<()> {
     if value < 256 {
         let one = [value as u8];
-        io::write_all(STDOUT_FILENO, &one);
+        output.write_all(&one)?;
     }
+    Ok(())
 }
 
 // The first number of a line.
-pub fn first(value: usize) {
-    io::print_decimal(STDOUT_FILENO, value as u64);
+pub fn first(output: &mut Output, value: usize) -> io::Result<()> {
+    write!(output, "{value}")
 }
 
 // One more number of a line that has some.
-pub fn also(value: usize) {
-    io::write_all(STDOUT_FILENO, b" ");
-    first(value);
+pub fn also(output: &mut Output, value: usize) -> io::Result<()> {
+    write!(output, " {value}")
 }
 
-pub fn end_line() {
-    io::write_all(STDOUT_FILENO, b"\n");
+pub fn end_line(output: &mut Output) -> io::Result<()> {
+    output.write_all(b"\n")
 }
 
 // The word as a number.
@@ -35,12 +39,13 @@ pub fn wide(word: u16) -> usize
 }
 
 // The words of a slice, behind a line's first number.
-pub fn also_words(ws: &[u16]) {
+pub fn also_words(output: &mut Output, ws: &[u16]) -> io::Result<()> {
     let mut i = 0;
     while i < ws.len() {
-        also(wide(ws[i]));
+        also(output, wide(ws[i]))?;
         i += 1;
     }
+    Ok(())
 }
 
 // How many words there are up to the last that is not zero.
@@ -56,8 +61,8 @@ fn used(ws: &[u16]) -> usize {
 }
 
 // How many words a slice has up to the last that is not zero, and these. So all its words are told: those behind are zeros.
-pub fn also_slice(ws: &[u16]) {
+pub fn also_slice(output: &mut Output, ws: &[u16]) -> io::Result<()> {
     let n = used(ws);
-    also(n);
-    also_words(front(ws, n));
+    also(output, n)?;
+    also_words(output, front(ws, n))
 }

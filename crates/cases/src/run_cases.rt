@@ -4,25 +4,33 @@
 // stands what the case before left there. An answer is a line of `answers`.
 use crate::answers::write;
 use crate::declared::next_declarations;
-use crate::input::{front_mut, next_number, next_words};
+use crate::input::{Input, front_mut, next_number, next_words};
+use crate::output::Output;
+use std::io;
 use step::run::run_steps;
 
 // Puts the words of a side to the front of its room, and lends as much of the room as the case says, since a caller may lend a slice of any
 // size.
-fn next_slice(room: &mut [u16]) -> &mut [u16] {
-    next_words(room);
-    front_mut(room, next_number())
+fn next_slice<'a>(input: &mut Input, room: &'a mut [u16]) -> io::Result<&'a mut [u16]> {
+    next_words(input, room)?;
+    let size = next_number(input)?;
+    Ok(front_mut(room, size))
 }
 
-pub fn answer(left_room: &mut [u16], right_room: &mut [u16]) {
-    let ds = next_declarations();
-    let n = next_number();
-    let left = next_slice(left_room);
-    let m = next_number();
-    let right = next_slice(right_room);
-    let count = next_number();
+pub fn answer(
+    input: &mut Input,
+    output: &mut Output,
+    left_room: &mut [u16],
+    right_room: &mut [u16],
+) -> io::Result<()> {
+    let ds = next_declarations(input)?;
+    let n = next_number(input)?;
+    let left = next_slice(input, left_room)?;
+    let m = next_number(input)?;
+    let right = next_slice(input, right_room)?;
+    let count = next_number(input)?;
     let mut room = [0u16; 9000];
-    let steps = next_words(&mut room);
+    let steps = next_words(input, &mut room)?;
     let answer = run_steps(&ds, left, n, right, m, steps, count);
-    write(answer, left, right);
+    write(output, answer, left, right)
 }

@@ -7,23 +7,25 @@ mod runs;
 mod slices;
 mod terms;
 
-use crate::input::{copy_name, next_number};
-use crate::output::end_line;
+use crate::input::{Input, copy_name, next_number};
+use crate::output::{Output, end_line};
+use std::io;
 
-fn call(op: usize) {
+fn call(input: &mut Input, output: &mut Output, op: usize) -> io::Result<()> {
     if op < 10 {
-        parts::answer(op);
+        parts::answer(input, output, op)
     } else if op < 20 {
-        terms::answer(op);
+        terms::answer(input, output, op)
     } else if op < 30 {
-        heads::answer(op);
+        heads::answer(input, output, op)
     } else {
-        runs::answer(op);
+        runs::answer(input, output, op)
     }
 }
 
-pub fn answer() {
-    copy_name();
-    call(next_number());
-    end_line();
+pub fn answer(input: &mut Input, output: &mut Output) -> io::Result<()> {
+    copy_name(input, output)?;
+    let op = next_number(input)?;
+    call(input, output, op)?;
+    end_line(output)
 }

@@ -1,7 +1,8 @@
 // The cases of the table of heads. 20 is a head's line of the table, 21 the number of children that a word wants, 22 the class of a head's
 // result, and 23 the class of a head's child.
-use crate::input::{narrow, next_number};
-use crate::output::{also, first};
+use crate::input::{Input, narrow, next_number};
+use crate::output::{Output, also, first};
+use std::io;
 use term::heads::{Arity, arity_of, child_class, result_class};
 use typebook::number;
 
@@ -22,32 +23,34 @@ fn child(head: usize, i: usize) -> usize {
 }
 
 // The classes of the result and of the children 0, 1 and 2.
-fn also_classes(head: usize) {
-    also(result(head));
-    also(child(head, 0));
-    also(child(head, 1));
-    also(child(head, 2));
+fn also_classes(output: &mut Output, head: usize) -> io::Result<()> {
+    also(output, result(head))?;
+    also(output, child(head, 0))?;
+    also(output, child(head, 1))?;
+    also(output, child(head, 2))
 }
 
 // A line of the table: the head, the children of head:0 and of head:1, and the classes.
-fn show_line(head: usize) {
+fn show_line(output: &mut Output, head: usize) -> io::Result<()> {
     if head < 256 {
-        first(head);
-        also(children(head * 256));
-        also(children(head * 256 + 1));
-        also_classes(head);
+        first(output, head)?;
+        also(output, children(head * 256))?;
+        also(output, children(head * 256 + 1))?;
+        also_classes(output, head)?;
     }
+    Ok(())
 }
 
-pub fn answer(op: usize) {
-    let n = next_number();
+pub fn answer(input: &mut Input, output: &mut Output, op: usize) -> io::Result<()> {
+    let n = next_number(input)?;
     if op == 20 {
-        show_line(n);
+        show_line(output, n)
     } else if op == 21 {
-        first(children(n));
+        first(output, children(n))
     } else if op == 22 {
-        first(result(n));
+        first(output, result(n))
     } else {
-        first(child(n, next_number()));
+        let i = next_number(input)?;
+        first(output, child(n, i))
     }
 }

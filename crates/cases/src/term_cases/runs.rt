@@ -1,41 +1,43 @@
 // The cases of runs of words. 30 clears a slice from an offset; of two slices 31 copies the second over the first, and 32 is their first
 // difference.
-use crate::input::next_number;
-use crate::output::{also_words, first};
+use crate::input::{Input, next_number};
+use crate::output::{Output, also_words, first};
 use crate::term_cases::slices::{MOST, read_slice};
+use std::io;
 use words::{clear_from, copy_words, first_difference};
 
 // The length of the slice, and its words after the call.
-fn clear() {
+fn clear(input: &mut Input, output: &mut Output) -> io::Result<()> {
     let mut room = [0u16; MOST];
-    let ws = read_slice(&mut room);
-    clear_from(ws, next_number());
-    first(ws.len());
-    also_words(ws);
+    let ws = read_slice(input, &mut room)?;
+    let from = next_number(input)?;
+    clear_from(ws, from);
+    first(output, ws.len())?;
+    also_words(output, ws)
 }
 
 // How many words were copied, and the words of the first slice after the call.
-fn copy(dst: &mut [u16], src: &[u16]) {
-    first(copy_words(dst, src));
-    also_words(dst);
+fn copy(output: &mut Output, dst: &mut [u16], src: &[u16]) -> io::Result<()> {
+    first(output, copy_words(dst, src))?;
+    also_words(output, dst)
 }
 
-fn answer_both(op: usize) {
+fn answer_both(input: &mut Input, output: &mut Output, op: usize) -> io::Result<()> {
     let mut room = [0u16; MOST];
     let mut more_room = [0u16; MOST];
-    let a = read_slice(&mut room);
-    let b = read_slice(&mut more_room);
+    let a = read_slice(input, &mut room)?;
+    let b = read_slice(input, &mut more_room)?;
     if op == 31 {
-        copy(a, b);
+        copy(output, a, b)
     } else {
-        first(first_difference(a, b));
+        first(output, first_difference(a, b))
     }
 }
 
-pub fn answer(op: usize) {
+pub fn answer(input: &mut Input, output: &mut Output, op: usize) -> io::Result<()> {
     if op == 30 {
-        clear();
+        clear(input, output)
     } else {
-        answer_both(op);
+        answer_both(input, output, op)
     }
 }

@@ -1,5 +1,6 @@
 // A slice of a case is its number of runs, and for each run a count and a word, so that a long slice is a short line.
-use crate::input::{fill, front_mut, narrow, next_count, next_number};
+use crate::input::{Input, fill, front_mut, narrow, next_count, next_number};
+use std::io;
 
 // The longest slice of a case has so many words.
 pub const MOST: usize = 20000;
@@ -15,20 +16,21 @@ fn end_of_run(from: usize, count: usize, room: usize) -> usize {
 }
 
 // Reads a run to the offsets from `from` on, and answers where it ends.
-fn read_run(ws: &mut [u16], from: usize) -> usize {
-    let to = end_of_run(from, next_number(), ws.len());
-    fill(ws, from, to, narrow(next_number()));
-    to
+fn read_run(input: &mut Input, ws: &mut [u16], from: usize) -> io::Result<usize> {
+    let to = end_of_run(from, next_number(input)?, ws.len());
+    let word = narrow(next_number(input)?);
+    fill(ws, from, to, word);
+    Ok(to)
 }
 
 // The slice is read to the front of `room`, and what that has no place for is dropped.
-pub fn read_slice(room: &mut [u16]) -> &mut [u16] {
-    let n = next_count();
+pub fn read_slice<'a>(input: &mut Input, room: &'a mut [u16]) -> io::Result<&'a mut [u16]> {
+    let n = next_count(input)?;
     let mut end = 0;
     let mut i = 0;
     while i < n {
-        end = read_run(room, end);
+        end = read_run(input, room, end)?;
         i += 1;
     }
-    front_mut(room, end)
+    Ok(front_mut(room, end))
 }
