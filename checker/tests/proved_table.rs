@@ -10,9 +10,9 @@ use checker::words::{children_of, head};
 const TABLE: &str = include_str!("../../crates/rules/specs/Table.antt");
 
 /// The heads as the table names them, from 2; names stand in no rule.
-const NAMES: &str = "index-product - pair scalar-zero scalar-one scalar-sum scalar-product \
-    conjugate delta dot zero-ket zero-bra zero-operator identity basis-ket basis-bra adjoint \
-    scale add tensor mulk mulb outer mulo - big-sum bound-basis";
+const NAMES: &str = "index_product - pair scalar_zero scalar_one scalar_sum scalar_product \
+    conjugate delta dot zero_ket zero_bra zero_operator identity basis_ket basis_bra adjoint \
+    scale add tensor mulk mulb outer mulo - big_sum bound_basis";
 
 /// The head of a bound basis, which the table writes with its number.
 const BOUND: u8 = 28;
@@ -93,9 +93,9 @@ fn equation(law: &Law, number: u16) -> String {
     let apart = law.left.get().iter().any(|item| matches!(item, Item::Apart(_)));
     let marked = law.premise.is_some_and(|premise| premise.marked);
     let kind = match (number, law.premise.as_ref().map(|premise| premise.kind)) {
-        (43, Some(Kind::Ket)) => "a-ket ⇒ ",
-        (45, Some(Kind::Bra)) => "a-bra ⇒ ",
-        (47, Some(Kind::Operator)) => "an-operator ⇒ ",
+        (43, Some(Kind::Ket)) => "a_ket ⇒ ",
+        (45, Some(Kind::Bra)) => "a_bra ⇒ ",
+        (47, Some(Kind::Operator)) => "an_operator ⇒ ",
         _ if apart => "unused ⇒ ",
         _ if marked => "marked ⇒ ",
         _ => "",
@@ -111,7 +111,7 @@ fn line(rule: &Rule) -> String {
         Way::Merge => "merging".to_string(),
         Way::Remove { parent, unit } => format!("removing {} {}", name(*parent), name(*unit)),
         Way::Absorb => "absorbing".to_string(),
-        Way::Spread => "spreading scalar-product child-i scalar-sum scalar-sum".to_string(),
+        Way::Spread => "spreading scalar_product child_i scalar_sum scalar_sum".to_string(),
         Way::Collect { i_scaled, j_scaled } => {
             format!("collecting {} {}", summand(*i_scaled), summand(*j_scaled))
         }

@@ -22,13 +22,13 @@ module _ {R : Type 0} {𝓐 : Arithmetic R} (𝓡 : StarSemiring 𝓐) where
   scalar-number A m n =
       record { rows = m; columns = n; entries = λ i j h k. let a : i ≡ 0 = omega arith in let b : j ≡ 0 = omega arith in cc (a, b) }
 
-  pub scalar-zero : zeros 𝓐 1 1 ≈ scalar 𝓐 𝟘
+  pub scalar_zero : zeros 𝓐 1 1 ≈ scalar 𝓐 𝟘
   unfolding zeros scalar
-  scalar-zero = everywhere refl refl λ i j. refl
+  scalar_zero = everywhere refl refl λ i j. refl
 
-  pub scalar-one : identity 𝓐 1 ≈ scalar 𝓐 𝟙
+  pub scalar_one : identity 𝓐 1 ≈ scalar 𝓐 𝟙
   unfolding identity scalar
-  scalar-one =
+  scalar_one =
       record {
         rows = refl;
         columns = refl;

@@ -13,8 +13,8 @@ use lib.Seq.{take-length}
 use Rattle.words.specs.Listed.{up_to, all_up_to, all}
 use Rattle.words.proofs.Listed.{up_to-at, up_to-some, up_to_mark, length-up_to, all_up_to-at, all-++}
 use Rattle.words.specs.Words.{same_words}
-use Rattle.words.proofs.Runs.{same-words_eq}
-use Rattle.term.specs.Heads.{Label, type-name, index-product, labelled, word, heads, reading, read}
+use Rattle.words.proofs.Runs.{same_words_eq}
+use Rattle.term.specs.Heads.{Label, type_name, index_product, labelled, word, heads, reading, read}
 use Rattle.term.specs.Trees.{Tree, Forest, node, none, ◌▹◌, count, ◌⧺◌, words, words*, Formed, Formed*}
 use Rattle.term.specs.Parts.{parse, first, part, tree_in}
 use Rattle.term.specs.Terms.{max_index, max_names, index_word, all_index_words}
@@ -29,7 +29,7 @@ use Rattle.declarations.specs.Declarations.{marked, mark_in, marks_square, is_va
 -- one word is an index where it may stand in one and is no product, which wants more
 name_part : (w : ℕ) → w / 256 ≡ 1 → length (part (w ∷ []) 0) ≡ 1
 unfolding part first words read heads reading count parse ◌⧺◌
-name_part w h = rw (parse-node w (type-name (w % 256)) none (rw h) [] none refl)
+name_part w h = rw (parse-node w (type_name (w % 256)) none (rw h) [] none refl)
 
 product-part : length (part (512 ∷ []) 0) ≡ 0
 unfolding part first parse read heads reading
@@ -81,7 +81,7 @@ module _ (N kind : ℕ) (xs ys : List ℕ) where
 
 pub square_told : (kind : ℕ) (xs ys : List ℕ) → marks_square kind xs ys ≡ true → marked kind ≡ true → (kind ≡ 7) × (xs ≡ ys)
 unfolding marks_square
-square_told kind xs ys e m = let p = (and-eq-true_iff (eqb kind 7) (same_words xs ys)).0 (rw m at e) in (eqb-true _ _ p.0, same-words_eq xs ys p.1)
+square_told kind xs ys e m = let p = (and-eq-true_iff (eqb kind 7) (same_words xs ys)).0 (rw m at e) in (eqb-true _ _ p.0, same_words_eq xs ys p.1)
 
 -- the code asks whether an index is to be absent
 pub turned : (b x y : Bool) → cond b x y ≡ cond (not b) y x
@@ -144,8 +144,8 @@ module _ (N : ℕ) (ds : List ℕ) (at n : ℕ) where
 
 -- ---- such a tree is an index of the context: by its word each node is a declared type name, or a product of two
 data IndexNode (N : ℕ) : Label → ℕ → Type 0 where
-  is-type : {a : ℕ} → a < N → IndexNode N (type-name a) 0
-  is-product : IndexNode N index-product 2
+  is-type : {a : ℕ} → a < N → IndexNode N (type_name a) 0
+  is-product : IndexNode N index_product 2
 
 data Indices (Γ : Context) : ℕ → Forest → Type 0 where
   no_more : Indices Γ 0 none
@@ -155,14 +155,14 @@ node_at : {N : ℕ} {l : Label} {n : ℕ} (w : ℕ) (b : Bool) → eqb (w / 256)
 unfolding read heads reading
 node_at {N} {l} {n} w true h e r =
     let q : w / 256 ≡ 1 = eqb-true _ _ h in
-    let v : labelled (type-name (w % 256)) 0 ≡ labelled l n = rw q at r in
-    let x : l ≡ type-name (w % 256) = cc in
+    let v : labelled (type_name (w % 256)) 0 ≡ labelled l n = rw q at r in
+    let x : l ≡ type_name (w % 256) = cc in
     let y : n ≡ 0 = cc in
     rw (x, y) (is-type (ltb-true _ _ e))
 node_at {N} {l} {n} w false h e r =
     let q : w ≡ 512 = eqb-true _ _ e in
-    let v : labelled index-product 2 ≡ labelled l n = rw q at r in
-    let x : l ≡ index-product = cc in
+    let v : labelled index_product 2 ≡ labelled l n = rw q at r in
+    let x : l ≡ index_product = cc in
     let y : n ≡ 2 = cc in
     rw (x, y) is-product
 

@@ -5,7 +5,7 @@ use mathlib.Core.List.{List, [], ◌∷◌}
 use Prim.Native.Nat.{ℕ}
 use lib.ListN.{replicate}
 use Rattle.words.specs.Words.{cleared}
-use Rattle.term.specs.Heads.{word, head_of, read, type-name}
+use Rattle.term.specs.Heads.{word, head_of, read, type_name}
 use Rattle.term.specs.Trees.{node, none, count, words, ◌⧺◌}
 use Rattle.term.specs.Parts.{parse, part, tree_in}
 use Rattle.types.specs.Sorts.{operator}
@@ -34,7 +34,7 @@ the-marks :
     × (is_good 5 one [] ≡ false)
     × (is_good 6 one [] ≡ false)
     × (is_good 11 one one ≡ false)
-    × ((context_in (lent 7 one one)).variables ≡ operator (node (type-name 0) none) (node (type-name 0) none) ∷ [])
+    × ((context_in (lent 7 one one)).variables ≡ operator (node (type_name 0) none) (node (type_name 0) none) ∷ [])
     × ((context_in (lent 7 one one)).marks ≡ true ∷ [])
     × ((context_in (lent 3 one one)).marks ≡ false ∷ [])
 unfolding is_good lent good_declarations is_index is_variable context_in started variable_put cleared part parse tree_in read words count word head_of ◌⧺◌

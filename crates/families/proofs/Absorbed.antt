@@ -4,7 +4,7 @@ use mathlib.Core.Bool.{true, false}
 use mathlib.Core.List.{List, [], ◌∷◌}
 use mathlib.Core.Option.{some, none as refused}
 use Prim.Native.Nat.{ℕ}
-use Rattle.term.specs.Heads.{scalar-zero, scalar-product, word}
+use Rattle.term.specs.Heads.{scalar_zero, scalar_product, word}
 use Rattle.term.specs.Trees.{node, none, count, words}
 use Rattle.term.specs.Parts.{Whole, parse, tree_in}
 use Rattle.types.specs.Sorts.{Context}
@@ -18,11 +18,11 @@ use Rattle.families.specs.Code.Families.{Named}
 use Rattle.families.proofs.Tested.{found, under, none-under}
 
 -- 8 is the number of a product, and 5 that of 0
-product : Named 8 scalar-product
+product : Named 8 scalar_product
 unfolding word
 product = record { number = refl; nameless = refl }
 
-zero : Named 5 scalar-zero
+zero : Named 5 scalar_zero
 unfolding word
 zero = record { number = refl; nameless = refl }
 
@@ -31,14 +31,14 @@ module _ (Γ : Context) {ws : List ℕ} {i : ℕ} {r : Child} (w : Whole ws) (e 
   unfolding rewrite absorb_at
   absorbs-none = none-under w e product zero absorb_at refl (λ b m f a z. rw z) (rewrite Γ absorbing i 0) (λ m f z. refl)
 
-  pub absorbs-child : r.there ≡ true → rewrite Γ absorbing i 0 (tree_in (parse ws)) ≡ some (node scalar-zero none)
+  pub absorbs-child : r.there ≡ true → rewrite Γ absorbing i 0 (tree_in (parse ws)) ≡ some (node scalar_zero none)
   unfolding rewrite absorb_at
-  absorbs-child t = let s = found w e t in let u = under w e product zero t s in rw (s.tree, s.child, ← u.parent, ← u.child, is_head_lem scalar-product, is_head_lem scalar-zero)
+  absorbs-child t = let s = found w e t in let u = under w e product zero t s in rw (s.tree, s.child, ← u.parent, ← u.child, is_head_lem scalar_product, is_head_lem scalar_zero)
 
-pub zero-few : few (node scalar-zero none) ≡ true
+pub zero-few : few (node scalar_zero none) ≡ true
 unfolding few count
 zero-few = refl
 
-pub zero-words : 1280 ∷ [] ≡ words (node scalar-zero none)
+pub zero-words : 1280 ∷ [] ≡ words (node scalar_zero none)
 unfolding words word
 zero-words = refl

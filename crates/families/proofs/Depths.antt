@@ -5,7 +5,7 @@ use mathlib.Core.Option.{Option, some, none as refused}
 use Prim.Native.Nat.{ℕ, suc, ◌≤◌}
 use native.Mathlib.Omega.{arith}
 use lib.Dec.{eqb, ltb}
-use Rattle.term.specs.Heads.{Label, scalar-zero, scalar-product}
+use Rattle.term.specs.Heads.{Label, scalar_zero, scalar_product}
 use Rattle.term.specs.Trees.{Tree, Forest, node, none, ◌▹◌, ◌⧺◌, count, depth, depth*}
 use Rattle.term.proofs.Extents.{depth*-⧺}
 use Rattle.types.specs.Sorts.{Context}
@@ -43,7 +43,7 @@ removed l c b (node m f) a u = behind-same (is_head c m (count f) && ltb 0 (coun
 -- a leaf takes the place of all
 absorbed : NoDeeper absorb_at
 unfolding absorb_at depth
-absorbed b (node m f) a u = shallow (is_head scalar-zero m (count f)) scalar-zero none (b ⧺ node m f ▹ a) (omega arith)
+absorbed b (node m f) a u = shallow (is_head scalar_zero m (count f)) scalar_zero none (b ⧺ node m f ▹ a) (omega arith)
 
 -- its children take the child's place, one level up
 merged : (l : Label) → NoDeeper (merge_at l)
@@ -68,7 +68,7 @@ unfolding may_deepen deepens_in family_number rewrite remove_at absorb_at merge_
 no_deeper (k ⇒ l ▷ r) h Γ i j t u e = true_false h
 no_deeper (spreading l w s r) h Γ i j t u e = true_false h
 no_deeper (removing l c) h Γ i j (node m f) u e = at-child (eqb j 0 && is_head l m (count f)) (remove_at l c) refl (removed l c) (at f i) e
-no_deeper absorbing h Γ i j (node m f) u e = at-child (eqb j 0 && is_head scalar-product m (count f)) absorb_at refl absorbed (at f i) e
+no_deeper absorbing h Γ i j (node m f) u e = at-child (eqb j 0 && is_head scalar_product m (count f)) absorb_at refl absorbed (at f i) e
 no_deeper merging h Γ i j (node m f) u e = at-child (eqb j 0 && is_chain m (count f)) (merge_at m) refl (merged m) (at f i) e
 no_deeper (collecting x y) h Γ i j t u e = true_false h
 no_deeper swapping h Γ i j (node m f) u e = at-child (eqb j 0 && is_loose m (count f)) (swap_at m) refl (swapped m) (at f i) e

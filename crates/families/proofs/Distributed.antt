@@ -9,7 +9,7 @@ use native.Mathlib.Omega.{arith}
 use borrow.Author.Tests.{ne_eqb, eq-eqb}
 use lib.Dec.{eqb}
 use Rattle.words.specs.Listed.{or_else}
-use Rattle.term.specs.Heads.{Label, scalar-sum, add, big-sum, word}
+use Rattle.term.specs.Heads.{Label, scalar_sum, add, big_sum, word}
 use Rattle.term.specs.Trees.{Tree, node, count, words}
 use Rattle.term.specs.Parts.{parse, tree_in}
 use Rattle.types.specs.Sorts.{Context}
@@ -24,18 +24,18 @@ use Rattle.families.proofs.Collected.{sum}
 
 -- over one kind of sum
 abbrev over : Context → Label → ℕ → Tree → Option Tree
-over Γ s i t = rewrite Γ (spreading big-sum (child 1) s s) i 0 t
+over Γ s i t = rewrite Γ (spreading big_sum (child 1) s s) i 0 t
 
 both-refused : (b : Bool) (x y : Option Tree) → cond b (or_else x y) none ≡ or_else (cond b x none) (cond b y none)
 unfolding or_else
 both-refused true x y = refl
 both-refused false x y = refl
 
-two_spreadings : (Γ : Context) (i : ℕ) (t : Tree) → rewrite Γ distributing i 0 t ≡ or_else (over Γ scalar-sum i t) (over Γ add i t)
+two_spreadings : (Γ : Context) (i : ℕ) (t : Tree) → rewrite Γ distributing i 0 t ≡ or_else (over Γ scalar_sum i t) (over Γ add i t)
 unfolding rewrite distribute_at
 two_spreadings Γ i (node m f) =
     let o = open_at f (place (child 1) i) in
-    both-refused (eqb 0 0 && (usable (child 1) i && is_head big-sum m (count f))) (spread_at big-sum scalar-sum scalar-sum o) (spread_at big-sum add add o)
+    both-refused (eqb 0 0 && (usable (child 1) i && is_head big_sum m (count f))) (spread_at big_sum scalar_sum scalar_sum o) (spread_at big_sum add add o)
 
 -- what is written is neither refused nor followed
 module _ (out : List ℕ) where
@@ -57,18 +57,18 @@ pub unusable : (Γ : Context) (i : ℕ) (t : Tree) → i ≢ 0 → rewrite Γ di
 unfolding rewrite usable
 unusable Γ i (node m f) h = rw (ne_eqb i 0 h)
 
-named : Named 27 big-sum
+named : Named 27 big_sum
 unfolding word
 named = record { number = refl; nameless = refl }
 
-scalars : Counted 7 scalar-sum
+scalars : Counted 7 scalar_sum
 unfolding word
 scalars = record { number = refl; chain = scalar_sums }
 
 -- both spreadings are over child 1, with i unused
 spreads : (Γ : Context) (ws out out' : List ℕ) (r : Rewritten) (i : ℕ) → i ≡ 0 → {h : ℕ} {s : Label} → Counted h s → Spreads ws out out' r 27 1 h h → Writes (over Γ s i (tree_in (parse ws))) out out' r
 unfolding usable place
-spreads Γ ws out out' r i z c h = h big-sum _ _ (child 1) i named c c (eq-eqb i 0 z) refl Γ
+spreads Γ ws out out' r i z c h = h big_sum _ _ (child 1) i named c c (eq-eqb i 0 z) refl Γ
 
 module _ (ws out : List ℕ) (i : ℕ) (z : i ≡ 0) where
   pub distributes-first : (out' : List ℕ) (r : Rewritten) → Spreads ws out out' r 27 1 7 7 → r.code ≢ 22 → Does ws out out' r distributing i 0

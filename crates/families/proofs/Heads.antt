@@ -11,7 +11,7 @@ use lib.Dec.{eqb}
 use lib.ListN.{get_or, get_or-eq_default}
 use Rattle.words.specs.Listed.{all_up_to}
 use Rattle.words.proofs.Listed.{all_up_to-at}
-use Rattle.term.specs.Heads.{Label, scalar-sum, scalar-product, delta, add, Head, unknown, named, fixed, counted, heads, head_of, word}
+use Rattle.term.specs.Heads.{Label, scalar_sum, scalar_product, delta, add, Head, unknown, named, fixed, counted, heads, head_of, word}
 use Rattle.term.specs.Trees.{Forest, node, count, Formed}
 use Rattle.term.proofs.Readings.{Every, ◌⨾◌, every_at, head_read, Written, label_line, read-few}
 use Rattle.rules.specs.Instances.{ACSymbol, scalar_sums, scalar_products, sums}
@@ -97,7 +97,7 @@ sum-heads h = elim (dec_lt h 28) [
 
 pub chain_test : (m : Label) (f : Forest) → Formed (node m f) → chain_word (word m (count f)) ≡ is_chain m (count f)
 unfolding is_chain word
-chain_test m f h = rw (head_test scalar-sum m f refl h, head_test scalar-product m f refl h, head_test add m f refl h)
+chain_test m f h = rw (head_test scalar_sum m f refl h, head_test scalar_product m f refl h, head_test add m f refl h)
 
 -- and of a head that is loose: these, and 10
 delta_test : (m : Label) (f : Forest) → Formed (node m f) → eqb (word m (count f) / 256) 10 ≡ is_head delta m (count f)
@@ -111,8 +111,8 @@ loose_test m f h = rw (delta_test m f h, chain_test m f h)
 pub chain_of : (m : Label) (f : Forest) → Formed (node m f) → chain_word (word m (count f)) ≡ true → ACSymbol m
 unfolding word
 chain_of m f h =
-    either (eqb (word m (count f) / 256) 7) _ (λ t. rw (← (same_head scalar-sum m f refl h (eqb-true _ _ t))) scalar_sums)
-    (either (eqb (word m (count f) / 256) 8) _ (λ t. rw (← (same_head scalar-product m f refl h (eqb-true _ _ t))) scalar_products)
+    either (eqb (word m (count f) / 256) 7) _ (λ t. rw (← (same_head scalar_sum m f refl h (eqb-true _ _ t))) scalar_sums)
+    (either (eqb (word m (count f) / 256) 8) _ (λ t. rw (← (same_head scalar_product m f refl h (eqb-true _ _ t))) scalar_products)
     (λ t. rw (← (same_head add m f refl h (eqb-true _ _ t))) sums))
 
 -- ---- a chain's word has its number and that of its children

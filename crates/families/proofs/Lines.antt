@@ -7,7 +7,7 @@ use Prim.Native.Nat.{ℕ, ◌/◌}
 use native.Mathlib.Omega.{arith}
 use borrow.Author.Tests.{eqb-true, lt-ltb, ltb-true}
 use lib.Dec.{eqb, ltb}
-use Rattle.term.specs.Heads.{Label, scalar-zero, scalar-sum, scalar-product, add, word, read}
+use Rattle.term.specs.Heads.{Label, scalar_zero, scalar_sum, scalar_product, add, word, read}
 use Rattle.term.specs.Trees.{Forest, node, none as no-tree, ◌▹◌, count, Formed}
 use Rattle.rules.specs.Table.{Which, child, child_i, Rule, ◌⇒◌▷◌, spreading, removing, absorbing, merging, collecting, swapping, distributing, table, rule_of}
 use Rattle.rules.specs.Instances.{ACSymbol, scalar_sums, scalar_products, sums}
@@ -26,15 +26,15 @@ chain_head : Label → Bool
 chain_head l = nameless l && chain_word (word l 0)
 
 leaf : Forest
-leaf = node scalar-zero no-tree ▹ no-tree
+leaf = node scalar_zero no-tree ▹ no-tree
 
 chain_label : (l : Label) → chain_head l ≡ true → ACSymbol l
 unfolding chain_head leaf Formed read word count
 chain_label l e =
     let b = both (nameless l) (chain_word (word l 0)) e in
     let is : (m : Label) → Formed (node m leaf) → eqb (head_number l) (word m 1 / 256) ≡ true → l ≡ m = λ m f h. same_head l m leaf b.0 f (sym (eqb-true _ _ h)) in
-    either (eqb (head_number l) 7) _ (λ h. rw (is scalar-sum (refl, ((refl, tt), tt)) h) scalar_sums)
-    (either (eqb (head_number l) 8) _ (λ h. rw (is scalar-product (refl, ((refl, tt), tt)) h) scalar_products) (λ h. rw (is add (refl, ((refl, tt), tt)) h) sums)) b.1
+    either (eqb (head_number l) 7) _ (λ h. rw (is scalar_sum (refl, ((refl, tt), tt)) h) scalar_sums)
+    (either (eqb (head_number l) 8) _ (λ h. rw (is scalar_product (refl, ((refl, tt), tt)) h) scalar_products) (λ h. rw (is add (refl, ((refl, tt), tt)) h) sums)) b.1
 
 fixed_child : Which → Bool
 fixed_child (child k) = ltb k 2

@@ -9,7 +9,7 @@ use borrow.Author.Tests.{ne_eqb}
 use lib.Dec.{eqb}
 use lib.ListN.{take, drop}
 use Rattle.words.specs.Words.{same_words}
-use Rattle.term.specs.Heads.{scalar-sum, scale, add}
+use Rattle.term.specs.Heads.{scalar_sum, scale, add}
 use Rattle.term.specs.Trees.{Tree, Forest, node, none, ◌▹◌, ◌⧺◌, words}
 use Rattle.rules.specs.Rewrite.{Multiple, collected}
 use Rattle.rules.specs.Steps.{few}
@@ -22,7 +22,7 @@ same_x ws x ends y last = cond (eqb x 0) false (cond (eqb y 0) false (same_words
 
 -- the new summand: the sum of two factors over X
 abbrev pub gathered : Tree → Tree → Tree → Tree
-gathered f g t = node scale (node scalar-sum (f ▹ g ▹ none) ▹ t ▹ none)
+gathered f g t = node scale (node scalar_sum (f ▹ g ▹ none) ▹ t ▹ none)
 
 -- the factors of both and the X of the first, where the summands stand from a up to b and from c up to d, and their X begin at x and y
 pub record Matched (ws : List ℕ) (a b c d x y : ℕ) (before between after : Forest) (p q : Multiple) : Type 0 where

@@ -9,7 +9,7 @@ use borrow.Author.Tests.{eqb-true, eqb-false, eq-eqb, ne_eqb}
 use lib.Dec.{eqb}
 use lib.ListN.{length, take, drop, get_or, length-append}
 use lib.Seq.{take_at, drop-append_seam, drop-drop}
-use Rattle.term.specs.Heads.{Label, scalar-one, scale, word, heads, labelled, reading, read}
+use Rattle.term.specs.Heads.{Label, scalar_one, scale, word, heads, labelled, reading, read}
 use Rattle.term.specs.Trees.{Tree, Forest, node, none, ◌▹◌, count, words, words*, Formed, Formed*}
 use Rattle.term.specs.Parts.{part}
 use Rattle.term.proofs.Scan.{whole_part}
@@ -66,11 +66,11 @@ a_scale : (a x : Tree) → multiple_of scaled (node scale (a ▹ x ▹ none)) �
 unfolding multiple_of
 a_scale a x = rw (is_head_lem scale 2)
 
-one-few : few (node scalar-one none) ≡ true
+one-few : few (node scalar_one none) ≡ true
 unfolding few count
 one-few = refl
 
-one-words : 1536 ∷ [] ≡ words (node scalar-one none)
+one-words : 1536 ∷ [] ≡ words (node scalar_one none)
 unfolding words word
 one-words = refl
 
@@ -84,7 +84,7 @@ module _ {ws : List ℕ} {i start end : ℕ} (s : Split ws i start end) where
   unfolding multiple_of
   located_plain =
       let b = child-bounds s in
-      located (node scalar-one none) (node s.label s.below) one-few (formed-few _ (child-formed s)) (omega arith)
+      located (node scalar_one none) (node s.label s.below) one-few (formed-few _ (child-formed s)) (omega arith)
       (rw (eq-eqb start start refl) one-words) (child-run s)
 
   -- ---- a.X: the part behind its word is a, and what is left is X

@@ -11,7 +11,7 @@ use lib.ListN.{length, take, replicate}
 use lib.Seq.{take-take, take-append_seam}
 use Rattle.words.specs.Words.{same_words}
 use Rattle.words.specs.Listed.{all_up_to}
-use Rattle.words.proofs.Runs.{same-words_eq}
+use Rattle.words.proofs.Runs.{same_words_eq}
 use Rattle.term.specs.Parts.{parse, tree_in}
 use Rattle.term.specs.Trees.{Tree, words}
 use Rattle.term.proofs.Parsing.{parse-tree}
@@ -73,7 +73,7 @@ unfolding pad
 front ws h = take-take (length ws) 63 (ws ++ replicate 63 0) h ∙ take-append_seam ws (replicate 63 0)
 
 padded-same : (a b : List ℕ) → length a ≤ 63 → length b ≤ 63 → length a ≡ length b → same_words (pad a) (pad b) ≡ true → a ≡ b
-padded-same a b h k l e = sym (front a h) ∙ ap (take (length a)) (same-words_eq (pad a) (pad b) e) ∙ rw l (front b k)
+padded-same a b h k l e = sym (front a h) ∙ ap (take (length a)) (same_words_eq (pad a) (pad b) e) ∙ rw l (front b k)
 
 parts_same : (a b : TermType) → same_type a b ≡ true
     → let x = sizesOf a.kind in

@@ -10,7 +10,7 @@ use Rattle.algebra.specs.Matrices.{Matrix, ◌≈◌, HasShape, number, sum_matr
 use Rattle.algebra.proofs.Alike.{≈-refl, ≡→≈, number-≈, add-≈, scale-≈, mul-≈, adjoint-≈, kronecker-≈}
 use Rattle.algebra.proofs.Shapes.{same_rows, same-columns, conformable}
 use Rattle.algebra.proofs.Ranges.{sum-matrices-≈}
-use Rattle.term.specs.Heads.{Label, big-sum}
+use Rattle.term.specs.Heads.{Label, big_sum}
 use Rattle.term.specs.Trees.{Tree, Forest, node, none, ◌▹◌, words, found, subtree, subtree*, replace, replace*}
 use Rattle.term.specs.Terms.{max_bodies}
 use Rattle.types.specs.Sorts.{Sort, index, basis, scalar, ket, bra, operator, IsType, Context, bind}
@@ -115,7 +115,7 @@ module _ {R : Type 0} (𝓐 : Arithmetic R) {Γ : Context} (W : WellFormed Γ) w
   sums-alike (operator σ τ) d f g χ t h s a x y e k = rw (e, k) (sum-matrices-≈ 𝓐 h s a)
 
   sum_congruent : {s t b c σ : Tree} {S : Sort} → Γ ⊢ s ∶ index σ → bind s Γ ⊢ b ∶ S → IsType S → length Γ.bound < max_bodies → Served s t → Serves 𝓐 (bind s Γ) b c
-      → (Γ ⊢ node big-sum (t ▹ c ▹ none) ∶ S) × ((χ : Choice R) → Fits 𝓐 Γ χ → Alike χ S (node big-sum (s ▹ b ▹ none)) (node big-sum (t ▹ c ▹ none)))
+      → (Γ ⊢ node big_sum (t ▹ c ▹ none) ∶ S) × ((χ : Choice R) → Fits 𝓐 Γ χ → Alike χ S (node big_sum (s ▹ b ▹ none)) (node big_sum (t ▹ c ▹ none)))
   sum_congruent {s} {t} {b} {c} {σ} {S} a d h n x y =
       let u = (x _ a).0 in
       let w = y _ d in
@@ -124,7 +124,7 @@ module _ {R : Type 0} (𝓐 : Arithmetic R) {Γ : Context} (W : WellFormed Γ) w
       (sum_over u v h n, λ χ F. rw (← z) (go χ F w.1))
     where
       go : (χ : Choice R) → Fits 𝓐 Γ χ → ((φ : Choice R) → Fits 𝓐 (bind s Γ) φ → Same S (stands 𝓐 (bind s Γ) φ b) (stands 𝓐 (bind s Γ) φ c))
-          → Alike χ S (node big-sum (s ▹ b ▹ none)) (node big-sum (s ▹ c ▹ none))
+          → Alike χ S (node big_sum (s ▹ b ▹ none)) (node big_sum (s ▹ c ▹ none))
       go χ F same =
           let e = sum_index 𝓐 W F a in
           sums-alike S (dimension 𝓐 χ s) _ _ χ h e.1 (λ p l. shape 𝓐 (bind_well W s) (fits-run 𝓐 F s p l) d) (λ p l. same (run p χ) (fits-run 𝓐 F s p l)) _ _

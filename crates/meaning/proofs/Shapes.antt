@@ -9,7 +9,7 @@ use lib.Arith.{digits_lt}
 use Rattle.algebra.specs.Semirings.{Arithmetic}
 use Rattle.algebra.specs.Matrices.{Matrix, HasShape, sum_matrices}
 use Rattle.algebra.proofs.Shapes.{shape-scalar, shape-zeros, shape-identity, shape-unit_column, shape-unit_row, shape-add, shape-scale, shape-mul, shape-adjoint, shape-kronecker, shape-sum-matrices}
-use Rattle.term.specs.Heads.{big-sum}
+use Rattle.term.specs.Heads.{big_sum}
 use Rattle.term.specs.Trees.{Tree, node, none, ◌▹◌}
 use Rattle.types.specs.Sorts.{Sort, index, basis, scalar, ket, bra, operator, IsType, Context, bind}
 use Rattle.types.specs.Rules.{◌⊢◌∶◌, type_var, basis_var, term_var, sca_0, sca_1, sca_delta, sca_add, sca_mul, sca_conj, sca_dot, base_prod, pair_base, ket_0, ket_base, ket_adj, ket_scr}
@@ -84,7 +84,7 @@ module _ {R : Type 0} (𝓐 : Arithmetic R) where
 
   -- what a sum stands for, by what its body stands for
   pub sum-stands : (Γ : Context) (χ : Choice R) (s b : Tree) → (stands 𝓐 Γ χ s).dimension ≡ dimension 𝓐 χ s
-      → (stands 𝓐 Γ χ (node big-sum (s ▹ b ▹ none))).matrix ≡ sum_matrices 𝓐 (dimension 𝓐 χ s) λ p. (stands 𝓐 (bind s Γ) (run p χ) b).matrix
+      → (stands 𝓐 Γ χ (node big_sum (s ▹ b ▹ none))).matrix ≡ sum_matrices 𝓐 (dimension 𝓐 χ s) λ p. (stands 𝓐 (bind s Γ) (run p χ) b).matrix
   unfolding stands meaning meaning_of first second a_term
   sum-stands Γ χ s b e = rw e (ap (sum_matrices 𝓐 (dimension 𝓐 χ s)) λ i p. (meaning 𝓐 (names-run Γ χ s p i) b).matrix)
 

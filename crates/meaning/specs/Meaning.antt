@@ -5,8 +5,8 @@ use Rattle.std.proofs.Math.ListN.{get_elem?}
 use Rattle.algebra.specs.Semirings.{Arithmetic}
 use Rattle.algebra.specs.Matrices.{Matrix, number, kronecker_delta, zeros, identity as identity-matrix, unit_column, unit_row, scalar, add as add-matrix, scale as scale-matrix, mul}
 use Rattle.algebra.specs.Matrices.{adjoint as adjoint-matrix, kronecker, sum_matrices}
-use Rattle.term.specs.Heads.{Label, type-name, basis_name, variable, index-product, pair, scalar-zero, scalar-one, scalar-sum, scalar-product, conjugate, delta, dot, zero-ket, zero-bra}
-use Rattle.term.specs.Heads.{zero-operator, identity, basis-ket, basis-bra, adjoint, scale, add, tensor, mulk, mulb, outer, mulo, bound-basis, big-sum}
+use Rattle.term.specs.Heads.{Label, type_name, basis_name, variable, index_product, pair, scalar_zero, scalar_one, scalar_sum, scalar_product, conjugate, delta, dot, zero_ket, zero_bra}
+use Rattle.term.specs.Heads.{zero_operator, identity, basis_ket, basis_bra, adjoint, scale, add, tensor, mulk, mulb, outer, mulo, bound_basis, big_sum}
 use Rattle.term.specs.Trees.{Tree, Forest, node, none, ◌▹◌}
 use Rattle.types.specs.Sorts.{Context}
 use Rattle.meaning.specs.Choices.{Choice, push, Meaning, NameMeanings, an_index, a_basis, a_term, nothing}
@@ -42,8 +42,8 @@ module _ {R : Type 0} (𝓐 : Arithmetic R) where
   -- ---- each head, in the order of document 01's table, by what its children stand for: as they are, and `b` where a basis more is bound
   unfoldable pub meaning_of : NameMeanings R → Label → (Meaning R → List (Meaning R)) → List (Meaning R) → Meaning R
   -- 01: "A type name has a dimension from 1 up; a product multiplies"
-  meaning_of N (type-name a) b cs = N.types a
-  meaning_of N index-product b cs = an_index 𝓐 ((first cs).dimension * (second cs).dimension)
+  meaning_of N (type_name a) b cs = N.types a
+  meaning_of N index_product b cs = an_index 𝓐 ((first cs).dimension * (second cs).dimension)
   -- 01: "A basis name is an index from 0 below its dimension; the pair (s, t) is s × (dimension of t's index) + t"
   meaning_of N (basis_name a) b cs = N.bases a
   meaning_of N pair b cs =
@@ -51,21 +51,21 @@ module _ {R : Type 0} (𝓐 : Arithmetic R) where
       let t = second cs in
       a_basis 𝓐 (s.dimension * t.dimension) (s.position * t.dimension + t.position)
   -- 01: "5 is 0 and 6 is 1. 7 and 20 add entry by entry, 8 multiplies numbers, 19 every entry, 9 conjugates"
-  meaning_of N scalar-zero b cs = a_term (scalar 𝓐 𝓐.zero)
-  meaning_of N scalar-one b cs = a_term (scalar 𝓐 𝓐.one)
-  meaning_of N scalar-sum b cs = a_term (total cs)
-  meaning_of N scalar-product b cs = a_term (scalar 𝓐 (times cs))
+  meaning_of N scalar_zero b cs = a_term (scalar 𝓐 𝓐.zero)
+  meaning_of N scalar_one b cs = a_term (scalar 𝓐 𝓐.one)
+  meaning_of N scalar_sum b cs = a_term (total cs)
+  meaning_of N scalar_product b cs = a_term (scalar 𝓐 (times cs))
   meaning_of N conjugate b cs = a_term (scalar 𝓐 (𝓐.conj (number (first cs).matrix)))
   -- 01: "Delta is 1 where the two indices are equal, else 0"
   meaning_of N delta b cs = a_term (scalar 𝓐 (kronecker_delta 𝓐 (first cs).position (second cs).position))
   meaning_of N dot b cs = product cs
   -- 01: "12 to 14 are all 0; 15 is 1 where row equals column, 16 at the row and 17 at the column that its basis names, else 0"
-  meaning_of N zero-ket b cs = a_term (zeros 𝓐 (first cs).dimension 1)
-  meaning_of N zero-bra b cs = a_term (zeros 𝓐 1 (first cs).dimension)
-  meaning_of N zero-operator b cs = a_term (zeros 𝓐 (first cs).dimension (second cs).dimension)
+  meaning_of N zero_ket b cs = a_term (zeros 𝓐 (first cs).dimension 1)
+  meaning_of N zero_bra b cs = a_term (zeros 𝓐 1 (first cs).dimension)
+  meaning_of N zero_operator b cs = a_term (zeros 𝓐 (first cs).dimension (second cs).dimension)
   meaning_of N identity b cs = a_term (identity-matrix 𝓐 (first cs).dimension)
-  meaning_of N basis-ket b cs = a_term (unit_column 𝓐 (first cs).dimension (first cs).position)
-  meaning_of N basis-bra b cs = a_term (unit_row 𝓐 (first cs).dimension (first cs).position)
+  meaning_of N basis_ket b cs = a_term (unit_column 𝓐 (first cs).dimension (first cs).position)
+  meaning_of N basis_bra b cs = a_term (unit_row 𝓐 (first cs).dimension (first cs).position)
   -- 01: "Adjoint is the conjugate transpose"
   meaning_of N adjoint b cs = a_term (adjoint-matrix 𝓐 (first cs).matrix)
   meaning_of N scale b cs = a_term (scale-matrix 𝓐 (number (first cs).matrix) (second cs).matrix)
@@ -78,8 +78,8 @@ module _ {R : Type 0} (𝓐 : Arithmetic R) where
   meaning_of N mulo b cs = product cs
   meaning_of N (variable a) b cs = N.variables a
   -- 02, CR 1: "the basis bound by the a-th 27 whose body holds it"; "A 27 stands for the sum of its body over all indices of its dimension"
-  meaning_of N (bound-basis a) b cs = N.bounds a
-  meaning_of N big-sum b cs = let d = (first cs).dimension in a_term (sum_matrices 𝓐 d λ p. (second (b (a_basis 𝓐 d p))).matrix)
+  meaning_of N (bound_basis a) b cs = N.bounds a
+  meaning_of N big_sum b cs = let d = (first cs).dimension in a_term (sum_matrices 𝓐 d λ p. (second (b (a_basis 𝓐 d p))).matrix)
 
   abbrev pub under : NameMeanings R → Meaning R → NameMeanings R
   under N x = record { types = N.types; bases = N.bases; variables = N.variables; bounds = push x N.bounds }

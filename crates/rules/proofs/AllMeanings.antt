@@ -5,7 +5,7 @@ use Prim.Native.Nat.{ℕ}
 use native.Mathlib.Omega.{arith}
 use Rattle.algebra.specs.Semirings.{Arithmetic, StarSemiring}
 use Rattle.algebra.specs.Matrices.{◌≈◌}
-use Rattle.term.specs.Heads.{Label, scalar-sum, scalar-product}
+use Rattle.term.specs.Heads.{Label, scalar_sum, scalar_product}
 use Rattle.term.specs.Trees.{Tree, Forest, node, none as no-tree, ◌▹◌, ◌⧺◌, count}
 use Rattle.types.specs.Sorts.{Sort, Context}
 use Rattle.types.specs.Rules.{◌⊢◌∶◌, WellFormed}
@@ -41,9 +41,9 @@ module _ {R : Type 0} {𝓐 : Arithmetic R} (𝓡 : StarSemiring 𝓐) {Γ : Con
   spreading-second law i j p q S (spreads (t ▹ no-tree) f a h) d = law S t f a d
   spreading-second law i j p q S (spreads (t ▹ u ▹ b) f a h) d = absurd (omega (arith, h.1))
 
-  spreading-any : ((S : Sort) (b f a : Forest) → Γ ⊢ node scalar-product (b ⧺ node scalar-sum f ▹ a) ∶ S
-      → value Γ 𝓡 χ (node scalar-product (b ⧺ node scalar-sum f ▹ a)) ≈ value Γ 𝓡 χ (node scalar-sum (spread scalar-product b f a)))
-      → RuleMeans (spreading scalar-product child_i scalar-sum scalar-sum)
+  spreading-any : ((S : Sort) (b f a : Forest) → Γ ⊢ node scalar_product (b ⧺ node scalar_sum f ▹ a) ∶ S
+      → value Γ 𝓡 χ (node scalar_product (b ⧺ node scalar_sum f ▹ a)) ≈ value Γ 𝓡 χ (node scalar_sum (spread scalar_product b f a)))
+      → RuleMeans (spreading scalar_product child_i scalar_sum scalar_sum)
   spreading-any law i j p q S (spreads b f a h) d = law S b f a d
 
   removing_means : {l c : Label} → Fitting l c → RuleMeans (removing l c)

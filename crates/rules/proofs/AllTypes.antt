@@ -3,7 +3,7 @@ use mathlib.Core.Path.{◌≡◌, refl}
 use mathlib.Core.Bool.{false}
 use mathlib.Core.Option.{some}
 use Prim.Native.Nat.{ℕ}
-use Rattle.term.specs.Heads.{Label, scalar-sum, scalar-product, conjugate, dot, adjoint, scale, add, tensor, mulk, mulb, outer, mulo}
+use Rattle.term.specs.Heads.{Label, scalar_sum, scalar_product, conjugate, dot, adjoint, scale, add, tensor, mulk, mulb, outer, mulo}
 use Rattle.term.specs.Trees.{Tree, Forest, node}
 use Rattle.types.specs.Sorts.{Sort, Context}
 use Rattle.types.specs.Inside.{binds}
@@ -28,16 +28,16 @@ module _ {Γ : Context} (W : WellFormed Γ) where
   abbrev Results : Label → Label → Type 0
   Results l r = (f : Forest) (S : Sort) → Γ ⊢ node l f ∶ S → Of r S
 
-  product-sums : Results scalar-product scalar-sum
+  product-sums : Results scalar_product scalar_sum
   product-sums f S (sca_mul a x) = of_sum
 
-  conjugate_sums : Results conjugate scalar-sum
+  conjugate_sums : Results conjugate scalar_sum
   conjugate_sums f S (sca_conj a) = of_sum
 
-  conjugate_products : Results conjugate scalar-product
+  conjugate_products : Results conjugate scalar_product
   conjugate_products f S (sca_conj a) = of_product
 
-  dot_sums : Results dot scalar-sum
+  dot_sums : Results dot scalar_sum
   dot_sums f S (sca_dot a b) = of_sum
 
   scale-sums : Results scale add

@@ -12,7 +12,7 @@ use lib.ListN.{length}
 use Rattle.words.specs.Listed.{or_else}
 use Rattle.words.specs.Words.{same_words}
 use Rattle.words.proofs.Runs.{same-words}
-use Rattle.term.specs.Heads.{Label, word, heads, labelled, reading, scalar-zero, scalar-sum, scalar-product, delta, scale, add, big-sum}
+use Rattle.term.specs.Heads.{Label, word, heads, labelled, reading, scalar_zero, scalar_sum, scalar_product, delta, scale, add, big_sum}
 use Rattle.term.specs.Trees.{Tree, Forest, node, none, ◌▹◌, ◌⧺◌, count, words, Formed}
 use Rattle.term.proofs.Readings.{read_at}
 use Rattle.term.proofs.Parsing.{⧺-assoc, count-⧺, Formed*-⧺}
@@ -20,7 +20,7 @@ use Rattle.types.specs.Sorts.{Sort, ket, bra, operator, Context}
 use Rattle.types.specs.Rules.{◌⊢◌∶◌, WellFormed}
 use Rattle.types.proofs.Sound.{by_sort}
 use Rattle.rules.specs.Patterns.{Pattern, #◌, first, second, ◌⟨⟩, ◌⟨◌⟩, ◌⟨◌∣◌⟩}
-use Rattle.rules.specs.Table.{Condition, any, a-ket, a-bra, an-operator, unused, marked, Which, child, child_i, Summand, plain, scaled, Rule, ◌⇒◌▷◌, spreading, removing, absorbing, merging}
+use Rattle.rules.specs.Table.{Condition, any, a_ket, a_bra, an_operator, unused, marked, Which, child, child_i, Summand, plain, scaled, Rule, ◌⇒◌▷◌, spreading, removing, absorbing, merging}
 use Rattle.rules.specs.Table.{collecting, swapping, distributing}
 use Rattle.rules.specs.Instances.{Filled, hole, first_of, second_of, over_none, over_one, over_two, Holds, ACSymbol, scalar_sums, scalar_products, sums, Loose, loose_chain}
 use Rattle.rules.specs.Instances.{loose_delta, Sum, of_scalars, of_arrays, Picks, spread, summand, factor, Instance, equals, spreads, removes, absorbs, merges, collects, swaps}
@@ -53,22 +53,22 @@ or-second false b e = e
 
 is-chain : {l : Label} → ACSymbol l → (n : ℕ) → is_chain l n ≡ true
 unfolding is_chain
-is-chain scalar_sums n = rw (is_head_lem scalar-sum n)
-is-chain scalar_products n = or-second (is_head scalar-sum scalar-product n) _ (rw (is_head_lem scalar-product n))
-is-chain sums n = or-second (is_head scalar-sum add n) _ (or-second (is_head scalar-product add n) _ (is_head_lem add n))
+is-chain scalar_sums n = rw (is_head_lem scalar_sum n)
+is-chain scalar_products n = or-second (is_head scalar_sum scalar_product n) _ (rw (is_head_lem scalar_product n))
+is-chain sums n = or-second (is_head scalar_sum add n) _ (or-second (is_head scalar_product add n) _ (is_head_lem add n))
 
 is_loose_lem : {l : Label} → Loose l → (n : ℕ) → is_loose l n ≡ true
 unfolding is_loose
 is_loose_lem (loose_chain {l} c) n = or-second (is_head delta l n) _ (is-chain c n)
 is_loose_lem loose_delta n = rw (is_head_lem delta n)
 
-other_sum : (n : ℕ) → is_head scalar-sum add n ≡ false
+other_sum : (n : ℕ) → is_head scalar_sum add n ≡ false
 unfolding is_head word
 other_sum n = ne_eqb (7 * 256 + n) (20 * 256 + n) (λ e. omega (arith, e))
 
-distributes-found : {l : Label} (s : Tree) (f : Forest) → Sum l → distribute_at (open_at (s ▹ node l f ▹ none) 1) ≡ some (node l (spread big-sum (s ▹ none) f none))
+distributes-found : {l : Label} (s : Tree) (f : Forest) → Sum l → distribute_at (open_at (s ▹ node l f ▹ none) 1) ≡ some (node l (spread big_sum (s ▹ none) f none))
 unfolding distribute_at open_at behind
-distributes-found s f of_scalars = rw (is_head_lem scalar-sum (count f))
+distributes-found s f of_scalars = rw (is_head_lem scalar_sum (count f))
 distributes-found s f of_arrays = rw (other_sum (count f), is_head_lem add (count f))
 
 -- ---- summands
@@ -81,9 +81,9 @@ multiple_of_lem scaled a x = rw (is_head_lem scale 2)
 condition_agrees : (Γ : Context) (θ : ℕ → Tree) (c : List Tree) → Agrees θ c → (k : Condition) → asked k (length c) ≡ true → satisfied Γ k (holes c) ≡ satisfied Γ k θ
 unfolding asked satisfied
 condition_agrees Γ θ c a any h = refl
-condition_agrees Γ θ c a a-ket h = rw (a 0 (ltb-true 0 (length c) h))
-condition_agrees Γ θ c a a-bra h = rw (a 0 (ltb-true 0 (length c) h))
-condition_agrees Γ θ c a an-operator h = rw (a 0 (ltb-true 0 (length c) h))
+condition_agrees Γ θ c a a_ket h = rw (a 0 (ltb-true 0 (length c) h))
+condition_agrees Γ θ c a a_bra h = rw (a 0 (ltb-true 0 (length c) h))
+condition_agrees Γ θ c a an_operator h = rw (a 0 (ltb-true 0 (length c) h))
 condition_agrees Γ θ c a unused h = rw (a 1 (ltb-true 1 (length c) h))
 condition_agrees Γ θ c a marked h = rw (a 0 (ltb-true 0 (length c) h))
 
@@ -99,7 +99,7 @@ equals-found Γ k l r θ g h =
 
 collects-found : (u v : Summand) (before between after : Forest) (a b x : Tree)
     → collect_at u v (count before) (open_at (before ⧺ summand u a x ▹ between ⧺ summand v b x ▹ after) (count before + 1 + count between))
-    ≡ some (node add (before ⧺ between ⧺ after ⧺ node scale (node scalar-sum (factor u a ▹ factor v b ▹ none) ▹ x ▹ none) ▹ none))
+    ≡ some (node add (before ⧺ between ⧺ after ⧺ node scale (node scalar_sum (factor u a ▹ factor v b ▹ none) ▹ x ▹ none) ▹ none))
 unfolding collect_at collect_before collected ◌⧺◌ count
 collects-found u v before between after a b x =
     let c : count before + 1 + count between ≡ count (before ⧺ summand u a x ▹ between) = omega (arith, count-⧺ before (summand u a x ▹ between)) in
@@ -110,11 +110,11 @@ unfolding rewrite spread_at remove_at absorb_at merge_at swap_at distribute_at
 complete {Γ} W g (equals {k} {l} {r} θ a b w) = rw (fill_is W a, fill_is W b) (equals-found Γ k l r θ g (condition-is W k θ w))
 complete W g (spreads {l} {s} {r} {w} {i} b f a h) = rw (picks_usable w i (count b) h, is_head_lem l _, picks_place w i (count b) h, open-⧺, is_head_lem s _)
 complete W g (removes {l} {c} b f a h) = rw (is_head_lem l _, open-⧺, is_head_lem c _, lt-ltb 0 _ h)
-complete W g (absorbs b a) = rw (is_head_lem scalar-product _, open-⧺, is_head_lem scalar-zero _)
+complete W g (absorbs b a) = rw (is_head_lem scalar_product _, open-⧺, is_head_lem scalar_zero _)
 complete W g (merges {l} b f a h) = rw (is-chain h _, open-⧺, is_head_lem l _)
 complete W g (collects {u} {v} b m a c d x) = rw (is_head_lem add _) (collects-found u v b m a c d x)
 complete W g (swaps {l} b a t u h) = rw (is_loose_lem h _, open-⧺)
-complete W g (distributes {l} s f x) = rw (picks_usable (child 1) 0 1 (refl, refl), is_head_lem big-sum _, picks_place (child 1) 0 1 (refl, refl)) (distributes-found s f x)
+complete W g (distributes {l} s f x) = rw (picks_usable (child 1) 0 1 (refl, refl), is_head_lem big_sum _, picks_place (child 1) 0 1 (refl, refl)) (distributes-found s f x)
 
 pub unique : {Γ : Context} → WellFormed Γ → {r : Rule} {i j : ℕ} {p q q' : Tree} → Good r → Instance Γ r i j p q → Instance Γ r i j p q' → q ≡ q'
 unique W g a b = cc (complete W g a, complete W g b)
@@ -135,14 +135,14 @@ no : {A B : Type 0} → A → false ≡ true → B
 no d w = absurd (not_so w)
 
 module _ {Γ : Context} {t : Tree} where
-  ket_of : (S : Sort) → Γ ⊢ t ∶ S → wanted a-ket S ≡ true → (σ : Tree) × (Γ ⊢ t ∶ ket σ)
-  ket_of = by_sort (λ S. Γ ⊢ t ∶ S → wanted a-ket S ≡ true → (σ : Tree) × (Γ ⊢ t ∶ ket σ)) (λ σ. no) (λ σ. no) no (λ σ d w. (σ, d)) (λ σ. no) (λ σ τ. no)
+  ket_of : (S : Sort) → Γ ⊢ t ∶ S → wanted a_ket S ≡ true → (σ : Tree) × (Γ ⊢ t ∶ ket σ)
+  ket_of = by_sort (λ S. Γ ⊢ t ∶ S → wanted a_ket S ≡ true → (σ : Tree) × (Γ ⊢ t ∶ ket σ)) (λ σ. no) (λ σ. no) no (λ σ d w. (σ, d)) (λ σ. no) (λ σ τ. no)
 
-  bra_of : (S : Sort) → Γ ⊢ t ∶ S → wanted a-bra S ≡ true → (σ : Tree) × (Γ ⊢ t ∶ bra σ)
-  bra_of = by_sort (λ S. Γ ⊢ t ∶ S → wanted a-bra S ≡ true → (σ : Tree) × (Γ ⊢ t ∶ bra σ)) (λ σ. no) (λ σ. no) no (λ σ. no) (λ σ d w. (σ, d)) (λ σ τ. no)
+  bra_of : (S : Sort) → Γ ⊢ t ∶ S → wanted a_bra S ≡ true → (σ : Tree) × (Γ ⊢ t ∶ bra σ)
+  bra_of = by_sort (λ S. Γ ⊢ t ∶ S → wanted a_bra S ≡ true → (σ : Tree) × (Γ ⊢ t ∶ bra σ)) (λ σ. no) (λ σ. no) no (λ σ. no) (λ σ d w. (σ, d)) (λ σ τ. no)
 
-  operator_of : (S : Sort) → Γ ⊢ t ∶ S → wanted an-operator S ≡ true → (σ : Tree) × (τ : Tree) × (Γ ⊢ t ∶ operator σ τ)
-  operator_of = by_sort (λ S. Γ ⊢ t ∶ S → wanted an-operator S ≡ true → (σ : Tree) × (τ : Tree) × (Γ ⊢ t ∶ operator σ τ)) (λ σ. no) (λ σ. no) no (λ σ. no) (λ σ. no) (λ σ τ d w. (σ, τ, d))
+  operator_of : (S : Sort) → Γ ⊢ t ∶ S → wanted an_operator S ≡ true → (σ : Tree) × (τ : Tree) × (Γ ⊢ t ∶ operator σ τ)
+  operator_of = by_sort (λ S. Γ ⊢ t ∶ S → wanted an_operator S ≡ true → (σ : Tree) × (τ : Tree) × (Γ ⊢ t ∶ operator σ τ)) (λ σ. no) (λ σ. no) no (λ σ. no) (λ σ. no) (λ σ τ d w. (σ, τ, d))
 
 -- Where a type is asked for, the holes are typed: so the right side is filled as the rule asks, and the condition holds
 module _ {Γ : Context} (W : WellFormed Γ) (c : List Tree) where
@@ -169,12 +169,12 @@ module _ {Γ : Context} (W : WellFormed Γ) (c : List Tree) where
   condition-holds : (k : Condition) → (of_words k ≡ true) ⊎ AllTyped Γ c → asked k (length c) ≡ true → satisfied Γ k (holes c) ≡ true → Holds Γ k (holes c)
   unfolding asked satisfied of_words
   condition-holds any o b w = tt
-  condition-holds a-ket (inl n) b w = absurd (not_so n)
-  condition-holds a-ket (inr all) b w = ket_of _ (hole-typed all 0 b) w
-  condition-holds a-bra (inl n) b w = absurd (not_so n)
-  condition-holds a-bra (inr all) b w = bra_of _ (hole-typed all 0 b) w
-  condition-holds an-operator (inl n) b w = absurd (not_so n)
-  condition-holds an-operator (inr all) b w = operator_of _ (hole-typed all 0 b) w
+  condition-holds a_ket (inl n) b w = absurd (not_so n)
+  condition-holds a_ket (inr all) b w = ket_of _ (hole-typed all 0 b) w
+  condition-holds a_bra (inl n) b w = absurd (not_so n)
+  condition-holds a_bra (inr all) b w = bra_of _ (hole-typed all 0 b) w
+  condition-holds an_operator (inl n) b w = absurd (not_so n)
+  condition-holds an_operator (inr all) b w = operator_of _ (hole-typed all 0 b) w
   condition-holds unused o b w = w
   condition-holds marked o b w = marked_variable Γ (holes c 0) w
 
@@ -223,19 +223,19 @@ removes_sound {l} {c} g h z e (there b (node d f) a k n) x =
     instance_at n z (rw (k, e, y)) (cc t.1) (removes b f a (ltb-true 0 _ s.1))
 
 -- absorbing
-zero_leaf : (f : Forest) → Formed (node scalar-zero f) → f ≡ none
+zero_leaf : (f : Forest) → Formed (node scalar_zero f) → f ≡ none
 unfolding Formed word count heads reading
 zero_leaf none h = refl
 zero_leaf (t ▹ f) h = let z : ◌≡◌ {A = ℕ} 0 (suc (count f)) = cc (h.0, read_at 5 0 (omega arith)) in absurd (omega (arith, z))
 
 absorbs_sound : {Γ : Context} {m : Label} {i j : ℕ} {f : Forest} {q : Tree} {o : Opened} → Formed (node m f)
-    → j ≡ 0 → scalar-product ≡ m → At f i o → absorb_at o ≡ some q → Instance Γ absorbing i j (node m f) q
+    → j ≡ 0 → scalar_product ≡ m → At f i o → absorb_at o ≡ some q → Instance Γ absorbing i j (node m f) q
 unfolding absorb_at
 absorbs_sound h z e (too_far l) x = no_answer x
 absorbs_sound h z e (there b (node c f) a k n) x =
-    let t = cond-some (is_head scalar-zero c (count f)) (some (node scalar-zero none)) x in
+    let t = cond-some (is_head scalar_zero c (count f)) (some (node scalar_zero none)) x in
     let v = child-formed _ b (node c f) a h k in
-    let y = head_is scalar-zero c f refl v t.0 in
+    let y = head_is scalar_zero c f refl v t.0 in
     let l = zero_leaf f (rw y v) in
     instance_at n z (rw (k, ← e, ← y, l)) (cc t.1) (absorbs b a)
 
@@ -243,8 +243,8 @@ absorbs_sound h z e (there b (node c f) a k n) x =
 chain_of : (m : Label) (f : Forest) → Formed (node m f) → is_chain m (count f) ≡ true → ACSymbol m
 unfolding is_chain
 chain_of m f h =
-    either (is_head scalar-sum m (count f)) _ (λ t. rw (← (head_is scalar-sum m f refl h t)) scalar_sums)
-    (either (is_head scalar-product m (count f)) _ (λ t. rw (← (head_is scalar-product m f refl h t)) scalar_products)
+    either (is_head scalar_sum m (count f)) _ (λ t. rw (← (head_is scalar_sum m f refl h t)) scalar_sums)
+    (either (is_head scalar_product m (count f)) _ (λ t. rw (← (head_is scalar_product m f refl h t)) scalar_products)
     (λ t. rw (← (head_is add m f refl h t)) sums))
 
 loose_of : (m : Label) (f : Forest) → Formed (node m f) → is_loose m (count f) ≡ true → Loose m
@@ -318,11 +318,11 @@ collects_sound h z (too_far l) e = no_answer e
 collects_sound {i} h z (there b t a k n) e = before_sound t a h z k n (at b i) e
 
 -- distributing: a spreading over the second of two children
-two_children : (f : Forest) → Formed (node big-sum f) → count f ≡ 2
+two_children : (f : Forest) → Formed (node big_sum f) → count f ≡ 2
 unfolding Formed word heads reading
-two_children f h = let z = read_at 27 0 (omega arith) in let e : labelled big-sum 2 ≡ labelled big-sum (count f) = sym z ∙ h.0 in cc
+two_children f h = let z = read_at 27 0 (omega arith) in let e : labelled big_sum 2 ≡ labelled big_sum (count f) = sym z ∙ h.0 in cc
 
-distributes_by : {Γ : Context} {l : Label} {i j : ℕ} {p q : Tree} → Sum l → Formed p → Instance Γ (spreading big-sum (child 1) l l) i j p q → Instance Γ distributing i j p q
+distributes_by : {Γ : Context} {l : Label} {i j : ℕ} {p q : Tree} → Sum l → Formed p → Instance Γ (spreading big_sum (child 1) l l) i j p q → Instance Γ distributing i j p q
 unfolding count ◌⧺◌
 distributes_by x h (spreads none f a k) = absurd (omega (arith, k.1))
 distributes_by {l} x h (spreads (s ▹ none) f none k) = instance_at k.0 refl refl refl (distributes s f x)
@@ -334,12 +334,12 @@ unfolding or_else
 or_some refused y f g e = g e
 or_some (some t) y f g e = f e
 
-distributes_sound : {Γ : Context} {m : Label} {i j : ℕ} {f : Forest} {q : Tree} {o : Opened} → Formed (node m f) → j ≡ 0 → usable (child 1) i ≡ true → big-sum ≡ m → At f (place (child 1) i) o
+distributes_sound : {Γ : Context} {m : Label} {i j : ℕ} {f : Forest} {q : Tree} {o : Opened} → Formed (node m f) → j ≡ 0 → usable (child 1) i ≡ true → big_sum ≡ m → At f (place (child 1) i) o
     → distribute_at o ≡ some q → Instance Γ distributing i j (node m f) q
 unfolding distribute_at
 distributes_sound {o = o} h a u z x =
-    or_some (spread_at big-sum scalar-sum scalar-sum o) (spread_at big-sum add add o)
-    (λ e. distributes_by of_scalars h (spreads_sound {r = scalar-sum} refl h a u z x e)) (λ e. distributes_by of_arrays h (spreads_sound {r = add} refl h a u z x e))
+    or_some (spread_at big_sum scalar_sum scalar_sum o) (spread_at big_sum add add o)
+    (λ e. distributes_by of_scalars h (spreads_sound {r = scalar_sum} refl h a u z x e)) (λ e. distributes_by of_arrays h (spreads_sound {r = add} refl h a u z x e))
 
 pub sound : {Γ : Context} → WellFormed Γ → {i j : ℕ} {q : Tree} {S : Sort} (r : Rule) (p : Tree) → Good r → Formed p → Γ ⊢ p ∶ S → rewrite Γ r i j p ≡ some q → Instance Γ r i j p q
 unfolding rewrite good
@@ -358,9 +358,9 @@ sound W {i} {j} (removing l d) (node m f) g h t e =
     let n = both (nameless l) (nameless d) g in
     removes_sound n.1 h (eqb-true j 0 b.0) (head_is l m f n.0 h b.1) (at f i) c.1
 sound W {i} {j} absorbing (node m f) g h t e =
-    let c = cond-some (eqb j 0 && is_head scalar-product m (count f)) _ e in
-    let b = both (eqb j 0) (is_head scalar-product m (count f)) c.0 in
-    absorbs_sound h (eqb-true j 0 b.0) (head_is scalar-product m f refl h b.1) (at f i) c.1
+    let c = cond-some (eqb j 0 && is_head scalar_product m (count f)) _ e in
+    let b = both (eqb j 0) (is_head scalar_product m (count f)) c.0 in
+    absorbs_sound h (eqb-true j 0 b.0) (head_is scalar_product m f refl h b.1) (at f i) c.1
 sound W {i} {j} merging (node m f) g h t e =
     let c = cond-some (eqb j 0 && is_chain m (count f)) _ e in
     let b = both (eqb j 0) (is_chain m (count f)) c.0 in
@@ -373,6 +373,6 @@ sound W {i} {j} swapping (node m f) g h t e =
     let b = both (eqb j 0) (is_loose m (count f)) c.0 in
     swaps_sound (eqb-true j 0 b.0) (loose_of m f h b.1) (at f i) c.1
 sound W {i} {j} distributing (node m f) g h t e =
-    let c = cond-some (eqb j 0 && (usable (child 1) i && is_head big-sum m (count f))) _ e in
-    let b = all_three (eqb j 0) (usable (child 1) i) (is_head big-sum m (count f)) c.0 in
-    distributes_sound h (eqb-true j 0 b.0) b.1.0 (head_is big-sum m f refl h b.1.1) (at f (place (child 1) i)) c.1
+    let c = cond-some (eqb j 0 && (usable (child 1) i && is_head big_sum m (count f))) _ e in
+    let b = all_three (eqb j 0) (usable (child 1) i) (is_head big_sum m (count f)) c.0 in
+    distributes_sound h (eqb-true j 0 b.0) b.1.0 (head_is big_sum m f refl h b.1.1) (at f (place (child 1) i)) c.1

@@ -10,7 +10,7 @@ use Rattle.algebra.proofs.Scalars as Scalars
 use Rattle.algebra.proofs.Deltas.{delta_sym}
 use Rattle.algebra.proofs.Combined.{scalar-≈}
 use Rattle.algebra.proofs.Semirings.{one-mul, zero-mul}
-use Rattle.term.specs.Heads.{Label, scalar-zero, scalar-sum, scalar-product, delta, scale, add}
+use Rattle.term.specs.Heads.{Label, scalar_zero, scalar_sum, scalar_product, delta, scale, add}
 use Rattle.term.specs.Trees.{Tree, Forest, node, none, ◌▹◌, ◌⧺◌, count}
 use Rattle.types.specs.Sorts.{Sort, Context}
 use Rattle.types.specs.Rules.{◌⊢◌∶◌, ◌⊢*◌∶◌, every_none, sca_0, sca_1, ket_0, bra_0, opt_0, WellFormed}
@@ -85,7 +85,7 @@ module _ {R : Type 0} {𝓐 : Arithmetic R} (𝓡 : StarSemiring 𝓐) {Γ : Con
 
   -- and two with the same X are one with the sum of their factors
   collected_value : {S : Sort} (o : Of add S) (u v : Summand) (p q x : Tree) → Γ ⊢ summand u p x ∶ S → Γ ⊢ summand v q x ∶ S
-      → (whole_of 𝓡 W F o).G.op (value Γ 𝓡 χ (summand u p x)) (value Γ 𝓡 χ (summand v q x)) ≈ value Γ 𝓡 χ (node scale (node scalar-sum (factor u p ▹ factor v q ▹ none) ▹ x ▹ none))
+      → (whole_of 𝓡 W F o).G.op (value Γ 𝓡 χ (summand u p x)) (value Γ 𝓡 χ (summand v q x)) ≈ value Γ 𝓡 χ (node scale (node scalar_sum (factor u p ▹ factor v q ▹ none) ▹ x ▹ none))
   unfolding value number add-matrix
   collected_value o u v p q x a b =
       let w = whole_of 𝓡 W F o in
@@ -97,7 +97,7 @@ module _ {R : Type 0} {𝓐 : Arithmetic R} (𝓡 : StarSemiring 𝓐) {Γ : Con
 
   pub collect_means : {S : Sort} (u v : Summand) (b m e : Forest) (p q x : Tree) (d : Γ ⊢ node add (b ⧺ summand u p x ▹ m ⧺ summand v q x ▹ e) ∶ S)
       → value Γ 𝓡 χ (node add (b ⧺ summand u p x ▹ m ⧺ summand v q x ▹ e))
-      ≈ value Γ 𝓡 χ (node add (b ⧺ m ⧺ e ⧺ node scale (node scalar-sum (factor u p ▹ factor v q ▹ none) ▹ x ▹ none) ▹ none))
+      ≈ value Γ 𝓡 χ (node add (b ⧺ m ⧺ e ⧺ node scale (node scalar_sum (factor u p ▹ factor v q ▹ none) ▹ x ▹ none) ▹ none))
   unfolding ◌⧺◌
   collect_means u v b m e p q x d =
       chain_means sum-chains _ _ d (collect_keeps u v b m e p q x d) λ o xs.
@@ -110,7 +110,7 @@ module _ {R : Type 0} {𝓐 : Arithmetic R} (𝓡 : StarSemiring 𝓐) {Γ : Con
   -- ---- 4, 6, 55 to 57: what goes comes to nothing
   pub unit_value : {l c : Label} {S : Sort} {f : Forest} → Fitting l c → (o : Of l S) → Γ ⊢ node c f ∶ S → value Γ 𝓡 χ (node c f) ≈ (whole_of 𝓡 W F o).G.unit
   unfolding value whole_of sum-chain sums products
-  unit_value scalar-zeros of_sum sca_0 = ≈-sym (Scalars.scalar-zero 𝓡)
+  unit_value scalar-zeros of_sum sca_0 = ≈-sym (Scalars.scalar_zero 𝓡)
   unit_value scalar_ones of_product sca_1 = ≈-refl _
   unit_value ket_zeros of_kets (ket_0 a) = ≡→≈ (cc (shape 𝓐 W F a))
   unit_value bra_zeros of_bras (bra_0 a) = ≡→≈ (cc (shape 𝓐 W F a))
@@ -128,6 +128,6 @@ module _ {R : Type 0} {𝓐 : Arithmetic R} (𝓡 : StarSemiring 𝓐) {Γ : Con
   times_around none t a = sym (one-mul 𝓡 _)
   times_around (s ▹ b) t a = ap (𝓐.mul (number (value Γ 𝓡 χ s))) (times_around b t a) ∙ sym (𝓡.mul_assoc _ _ _)
 
-  pub absorb_means : (b a : Forest) → value Γ 𝓡 χ (node scalar-product (b ⧺ node scalar-zero none ▹ a)) ≈ value Γ 𝓡 χ (node scalar-zero none)
+  pub absorb_means : (b a : Forest) → value Γ 𝓡 χ (node scalar_product (b ⧺ node scalar_zero none ▹ a)) ≈ value Γ 𝓡 χ (node scalar_zero none)
   unfolding value number scalar-matrix
-  absorb_means b a = ≡→≈ (ap (scalar-matrix 𝓐) (times_around b (node scalar-zero none) a ∙ cc (zero-mul 𝓡 (times 𝓐 (stands* 𝓐 Γ χ a)), 𝓡.mul_zero (times 𝓐 (stands* 𝓐 Γ χ b)))))
+  absorb_means b a = ≡→≈ (ap (scalar-matrix 𝓐) (times_around b (node scalar_zero none) a ∙ cc (zero-mul 𝓡 (times 𝓐 (stands* 𝓐 Γ χ a)), 𝓡.mul_zero (times 𝓐 (stands* 𝓐 Γ χ b)))))

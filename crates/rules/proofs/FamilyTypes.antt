@@ -4,7 +4,7 @@ use mathlib.Core.Bool.{false}
 use mathlib.Core.List.{List}
 use Prim.Native.Nat.{suc, ◌<◌}
 use native.Mathlib.Omega.{arith}
-use Rattle.term.specs.Heads.{Label, scalar-zero, scalar-sum, scalar-product, delta, scale, add, big-sum}
+use Rattle.term.specs.Heads.{Label, scalar_zero, scalar_sum, scalar_product, delta, scale, add, big_sum}
 use Rattle.term.specs.Trees.{Tree, Forest, node, none, ◌▹◌, ◌⧺◌, count}
 use Rattle.term.proofs.Parsing.{count-⧺}
 use Rattle.types.specs.Sorts.{Sort, scalar, Context}
@@ -59,10 +59,10 @@ module _ {Γ : Context} {S : Sort} where
       let q = around none u a r.back in
       chained k.of (some-behind b (u ▹ t ▹ a) (omega arith)) (every-⧺ r.front (every_more q.here (every_more r.here q.back)))
 
-zero_of : {Γ : Context} {S : Sort} → Of scalar-product S → Γ ⊢ node scalar-zero none ∶ S
+zero_of : {Γ : Context} {S : Sort} → Of scalar_product S → Γ ⊢ node scalar_zero none ∶ S
 zero_of of_product = sca_0
 
-pub absorb_keeps : {Γ : Context} {S : Sort} {f : Forest} → Γ ⊢ node scalar-product f ∶ S → Γ ⊢ node scalar-zero none ∶ S
+pub absorb_keeps : {Γ : Context} {S : Sort} {f : Forest} → Γ ⊢ node scalar_product f ∶ S → Γ ⊢ node scalar_zero none ∶ S
 absorb_keeps d = zero_of (links scalar_products d).of
 
 -- ---- summands
@@ -85,7 +85,7 @@ summand-typed plain d = record { factor-typed = sca_1; rest_typed = d }
 summand-typed scaled d = scaled_of d
 
 pub collected-typed : {Γ : Context} {S : Sort} (u v : Summand) (p q x : Tree) → Of add S → Γ ⊢ summand u p x ∶ S → Γ ⊢ summand v q x ∶ S
-    → Γ ⊢ node scale (node scalar-sum (factor u p ▹ factor v q ▹ none) ▹ x ▹ none) ∶ S
+    → Γ ⊢ node scale (node scalar_sum (factor u p ▹ factor v q ▹ none) ▹ x ▹ none) ∶ S
 collected-typed u v p q x o a b =
     let y = summand-typed u a in
     let z = summand-typed v b in
@@ -93,7 +93,7 @@ collected-typed u v p q x o a b =
 
 pub collect_keeps : {Γ : Context} {S : Sort} (u v : Summand) (b m e : Forest) (p q x : Tree)
     → Γ ⊢ node add (b ⧺ summand u p x ▹ m ⧺ summand v q x ▹ e) ∶ S
-    → Γ ⊢ node add (b ⧺ m ⧺ e ⧺ node scale (node scalar-sum (factor u p ▹ factor v q ▹ none) ▹ x ▹ none) ▹ none) ∶ S
+    → Γ ⊢ node add (b ⧺ m ⧺ e ⧺ node scale (node scalar_sum (factor u p ▹ factor v q ▹ none) ▹ x ▹ none) ▹ none) ∶ S
 unfolding count ◌⧺◌
 collect_keeps u v b m e p q x d =
     let k = links sums d in
@@ -147,8 +147,8 @@ spread-keeps W {l} {s} z b f a c o d =
     chained o (rw (count-spread l b f a) k.some) (spread-typed b a h.again k.every)
 
 -- a sum over a basis has the sort of its body, and so has each over a summand of it
-pub distribute_keeps : {Γ : Context} {l : Label} {S : Sort} (s : Tree) (f : Forest) → Sum l → Γ ⊢ node big-sum (s ▹ node l f ▹ none) ∶ S → Γ ⊢ node l (spread big-sum (s ▹ none) f none) ∶ S
+pub distribute_keeps : {Γ : Context} {l : Label} {S : Sort} (s : Tree) (f : Forest) → Sum l → Γ ⊢ node big_sum (s ▹ node l f ▹ none) ∶ S → Γ ⊢ node l (spread big_sum (s ▹ none) f none) ∶ S
 unfolding ◌⧺◌
 distribute_keeps {l} s f x (sum_over a d h n) =
     let k = links (sum-chain x) d in
-    chained k.of (rw (count-spread big-sum (s ▹ none) f none) k.some) (spread-typed (s ▹ none) none (λ u e. sum_over a e h n) k.every)
+    chained k.of (rw (count-spread big_sum (s ▹ none) f none) k.some) (spread-typed (s ▹ none) none (λ u e. sum_over a e h n) k.every)

@@ -1,7 +1,7 @@
 -- Rows of children of one sort, and what a chain (7, 8 or 20) asks of them.
 use Prim.Native.Nat.{◌<◌}
 use native.Mathlib.Omega.{arith}
-use Rattle.term.specs.Heads.{Label, scalar-zero, scalar-one, scalar-sum, scalar-product, zero-ket, zero-bra, zero-operator, add}
+use Rattle.term.specs.Heads.{Label, scalar_zero, scalar_one, scalar_sum, scalar_product, zero_ket, zero_bra, zero_operator, add}
 use Rattle.term.specs.Trees.{Tree, Forest, node, none, ◌▹◌, ◌⧺◌, count}
 use Rattle.types.specs.Sorts.{Sort, scalar, ket, bra, operator, Context}
 use Rattle.types.specs.Rules.{◌⊢◌∶◌, ◌⊢*◌∶◌, every_none, every_more, sca_add, sca_mul, ket_add, bra_add, opt_add}
@@ -9,7 +9,7 @@ use Rattle.rules.specs.Instances.{ACSymbol, scalar_sums, scalar_products, sums}
 
 -- the chains that are sums
 pub data Sum : Label → Type 0 where
-  scalars : Sum scalar-sum
+  scalars : Sum scalar_sum
   arrays : Sum add
 
 pub sum-is-chain : {l : Label} → Sum l → ACSymbol l
@@ -18,11 +18,11 @@ sum-is-chain arrays = sums
 
 -- the zero or one that a chain can do without: 4, 6, 55 to 57
 pub data Fitting : Label → Label → Type 0 where
-  scalar-zeros : Fitting scalar-sum scalar-zero
-  scalar_ones : Fitting scalar-product scalar-one
-  ket_zeros : Fitting add zero-ket
-  bra_zeros : Fitting add zero-bra
-  operator-zeros : Fitting add zero-operator
+  scalar-zeros : Fitting scalar_sum scalar_zero
+  scalar_ones : Fitting scalar_product scalar_one
+  ket_zeros : Fitting add zero_ket
+  bra_zeros : Fitting add zero_bra
+  operator-zeros : Fitting add zero_operator
 
 pub fitting-chain : {l c : Label} → Fitting l c → ACSymbol l
 fitting-chain scalar-zeros = scalar_sums
@@ -33,8 +33,8 @@ fitting-chain operator-zeros = sums
 
 -- which sorts a chain is of
 pub data Of : Label → Sort → Type 0 where
-  of_sum : Of scalar-sum scalar
-  of_product : Of scalar-product scalar
+  of_sum : Of scalar_sum scalar
+  of_product : Of scalar_product scalar
   of_kets : {σ : Tree} → Of add (ket σ)
   of_bras : {σ : Tree} → Of add (bra σ)
   of_operators : {σ τ : Tree} → Of add (operator σ τ)

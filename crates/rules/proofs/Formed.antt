@@ -12,7 +12,7 @@ use lib.ListN.{length, get_or}
 use Rattle.words.specs.Listed.{all}
 use Rattle.words.proofs.Listed.{all-++}
 use Rattle.term.specs.declared.terms.Names.{Names}
-use Rattle.term.specs.Heads.{Label, type-name, basis_name, variable, scalar-sum, scalar-product, add, bound-basis, unknown, labelled, heads, reading, word, read}
+use Rattle.term.specs.Heads.{Label, type_name, basis_name, variable, scalar_sum, scalar_product, add, bound_basis, unknown, labelled, heads, reading, word, read}
 use Rattle.term.specs.Trees.{Tree, Forest, node, none, ◌▹◌, count, words, words*, Formed, Formed*}
 use Rattle.term.specs.Terms.{max_words, max_children, max_names, known, declared, all_declared, IsTerm}
 use Rattle.term.proofs.Readings.{read_at, read-few}
@@ -52,9 +52,9 @@ module _ (N : Names) where
       → cond (eqb k 1) (known a N.types) (cond (eqb k 3) (known a N.bases) (cond (eqb k 26) (known a N.variables) true)) ≡ true → Node N l n
   node_at l k a n h w r d = record { formed = rw w (read_at k a h ∙ r); named = rw w (declared-at k a h ∙ d) }
 
-  type-node : (a : ℕ) → a < 256 → known a N.types ≡ true → Node N (type-name a) 0
+  type-node : (a : ℕ) → a < 256 → known a N.types ≡ true → Node N (type_name a) 0
   unfolding word heads reading
-  type-node a h e = node_at (type-name a) 1 a 0 h refl refl e
+  type-node a h e = node_at (type_name a) 1 a 0 h refl refl e
 
   basis_node : (a : ℕ) → a < 256 → known a N.bases ≡ true → Node N (basis_name a) 0
   unfolding word heads reading
@@ -64,17 +64,17 @@ module _ (N : Names) where
   unfolding word heads reading
   variable_node a h e = node_at (variable a) 26 a 0 h refl refl e
 
-  bound-node : (a : ℕ) → a < 256 → Node N (bound-basis a) 0
+  bound-node : (a : ℕ) → a < 256 → Node N (bound_basis a) 0
   unfolding word heads reading
-  bound-node a h = node_at (bound-basis a) 28 a 0 h refl refl refl
+  bound-node a h = node_at (bound_basis a) 28 a 0 h refl refl refl
 
-  sum-node : (n : ℕ) → suc n ≤ 255 → Node N scalar-sum (suc n)
+  sum-node : (n : ℕ) → suc n ≤ 255 → Node N scalar_sum (suc n)
   unfolding word heads reading
-  sum-node n h = node_at scalar-sum 7 (suc n) (suc n) (omega arith) refl (rw eqb-suc-zero) refl
+  sum-node n h = node_at scalar_sum 7 (suc n) (suc n) (omega arith) refl (rw eqb-suc-zero) refl
 
-  product-node : (n : ℕ) → suc n ≤ 255 → Node N scalar-product (suc n)
+  product-node : (n : ℕ) → suc n ≤ 255 → Node N scalar_product (suc n)
   unfolding word heads reading
-  product-node n h = node_at scalar-product 8 (suc n) (suc n) (omega arith) refl (rw eqb-suc-zero) refl
+  product-node n h = node_at scalar_product 8 (suc n) (suc n) (omega arith) refl (rw eqb-suc-zero) refl
 
   add-node : (n : ℕ) → suc n ≤ 255 → Node N add (suc n)
   unfolding word heads reading
@@ -184,9 +184,9 @@ module _ {Γ : Context} (W : WellFormed Γ) where
   typed-formed {t} d h = tree-formed (counts_of Γ) W (own_declared Γ) t d h
 
   -- and within the limits of a step it is a term
-  pub within-term_own : {t : Tree} {S : Sort} → Γ ⊢ t ∶ S → within t ≡ true → IsTerm (counts_of Γ) t
+  pub within_term_own : {t : Tree} {S : Sort} → Γ ⊢ t ∶ S → within t ≡ true → IsTerm (counts_of Γ) t
   unfolding within
-  within-term_own {t} d h =
+  within_term_own {t} d h =
       let e = (and-eq-true_iff (few t) _).0 h in
       let s = (and-eq-true_iff (leb (length (words t)) max_words) _).0 e.1 in
       record { formed = typed-formed d e.0; short = leb-true _ _ s.0; shallow = leb-true _ _ s.1; named = tree-declared (counts_of Γ) W (own_declared Γ) t d e.0 }

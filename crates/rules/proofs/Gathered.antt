@@ -6,7 +6,7 @@ use native.Mathlib.Omega.{arith}
 use Rattle.algebra.specs.Semirings.{Arithmetic, StarSemiring}
 use Rattle.algebra.specs.Matrices.{Matrix, ◌≈◌, HasShape, number, scalar as scalar-matrix, add as add-matrix}
 use Rattle.algebra.proofs.Alike.{≈-refl, ≈-sym, ≈-trans, ≡→≈, number-≈}
-use Rattle.term.specs.Heads.{Label, scalar-sum, add}
+use Rattle.term.specs.Heads.{Label, scalar_sum, add}
 use Rattle.term.specs.Trees.{Tree, Forest, node, none, ◌▹◌, ◌⧺◌, count}
 use Rattle.term.proofs.Parsing.{⧺-none, ⧺-assoc}
 use Rattle.types.specs.Sorts.{Sort, scalar, ket, bra, operator, Context}
@@ -126,7 +126,7 @@ module _ {R : Type 0} {𝓐 : Arithmetic R} (𝓡 : StarSemiring 𝓐) {Γ : Con
 
   unfoldable pub whole_of : {l : Label} {S : Sort} → Of l S → Whole l S
   unfolding value
-  whole_of of_sum = sum-chain scalar scalar-shape scalar-sum (λ t f. refl)
+  whole_of of_sum = sum-chain scalar scalar-shape scalar_sum (λ t f. refl)
   whole_of of_product = record { m = 1; n = 1; G = products 𝓡; shaped = scalar-shape; whole = λ f h xs. times-whole xs }
   whole_of of_kets = sum-chain (ket _) (λ t d. shape 𝓐 W F d) add (λ t f. refl)
   whole_of of_bras = sum-chain (bra _) (λ t d. shape 𝓐 W F d) add (λ t f. refl)

@@ -16,15 +16,15 @@ use Rattle.meaning.specs.Meaning.{first, second, plus, total, times, product, me
 use Rattle.rules.specs.Patterns.{Pattern}
 use Rattle.rules.specs.Instances.{Filled, hole, first_of, second_of, over_none, over_one, over_two, is_unused, Holds}
 use Rattle.rules.specs.Rewrite.{sort_of, wanted, fill, satisfied}
-use Rattle.rules.specs.Table.{Condition, any, a-ket, a-bra, an-operator, unused, marked, Rule, ◌⇒◌▷◌, spreading, removing, absorbing, merging, collecting, swapping, distributing, table, find}
+use Rattle.rules.specs.Table.{Condition, any, a_ket, a_bra, an_operator, unused, marked, Rule, ◌⇒◌▷◌, spreading, removing, absorbing, merging, collecting, swapping, distributing, table, find}
 use Rattle.rules.proofs.Marks.{is-marked}
 
 -- where the parts in the holes must meet a condition
 abbrev pub Given : Context → Condition → (ℕ → Tree) → Type 0 → Type 0
 Given Γ any θ A = A
-Given Γ a-ket θ A = wanted a-ket (sort_of Γ (θ 0)) ≡ true → A
-Given Γ a-bra θ A = wanted a-bra (sort_of Γ (θ 0)) ≡ true → A
-Given Γ an-operator θ A = wanted an-operator (sort_of Γ (θ 0)) ≡ true → A
+Given Γ a_ket θ A = wanted a_ket (sort_of Γ (θ 0)) ≡ true → A
+Given Γ a_bra θ A = wanted a_bra (sort_of Γ (θ 0)) ≡ true → A
+Given Γ an_operator θ A = wanted an_operator (sort_of Γ (θ 0)) ≡ true → A
 Given Γ unused θ A = is_unused (θ 1) ≡ true → A
 Given Γ marked θ A = (a : ℕ) → θ 0 ≡ node (variable a) no-children → Marked Γ a → A
 
@@ -49,9 +49,9 @@ module _ {Γ : Context} (W : WellFormed Γ) where
   pub condition-is : (k : Condition) (θ : ℕ → Tree) → Holds Γ k θ → satisfied Γ k θ ≡ true
   unfolding satisfied
   condition-is any θ w = refl
-  condition-is a-ket θ w = rw (sort-is w.1)
-  condition-is a-bra θ w = rw (sort-is w.1)
-  condition-is an-operator θ w = rw (sort-is w.2)
+  condition-is a_ket θ w = rw (sort-is w.1)
+  condition-is a_bra θ w = rw (sort-is w.1)
+  condition-is an_operator θ w = rw (sort-is w.2)
   condition-is unused θ w = w
   condition-is marked θ w = rw w.1 (is-marked Γ w.0 w.2)
 
@@ -76,9 +76,9 @@ module _ (Γ : Context) where
     where
       by_condition : (k : Condition) → Law P (some (k ⇒ l ▷ r)) → Holds Γ k θ → P (fill Γ θ l) (fill Γ θ r) S
       by_condition any law w = law θ S
-      by_condition a-ket law w = law θ S (condition-is W a-ket θ w)
-      by_condition a-bra law w = law θ S (condition-is W a-bra θ w)
-      by_condition an-operator law w = law θ S (condition-is W an-operator θ w)
+      by_condition a_ket law w = law θ S (condition-is W a_ket θ w)
+      by_condition a_bra law w = law θ S (condition-is W a_bra θ w)
+      by_condition an_operator law w = law θ S (condition-is W an_operator θ w)
       by_condition unused law w = law θ S w
       by_condition marked law w = law θ S w.0 w.1 w.2
 

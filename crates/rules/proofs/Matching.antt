@@ -9,7 +9,7 @@ use native.Mathlib.Omega.{arith}
 use borrow.Author.Tests.{eq-eqb, ne_eqb, leb-true, ltb-true, not-true}
 use lib.ListN.{length, length-append}
 use Rattle.words.specs.Words.{same_words}
-use Rattle.words.proofs.Runs.{same-words, same-words_eq}
+use Rattle.words.proofs.Runs.{same-words, same_words_eq}
 use Rattle.term.specs.Heads.{Label, word, heads, reading}
 use Rattle.term.specs.Trees.{Tree, Forest, node, none, ◌▹◌, count, words, Formed}
 use Rattle.term.proofs.Readings.{read_at}
@@ -118,7 +118,7 @@ and_then_lem (some c) f e = (c, refl, e)
 
 -- parts with the same words are the same
 pub same-part : (t u : Tree) → Formed t → Formed u → same_words (words t) (words u) ≡ true → t ≡ u
-same-part t u h k e = one-reading t u h k (same-words_eq (words t) (words u) e)
+same-part t u h k e = one-reading t u h k (same_words_eq (words t) (words u) e)
 
 -- ---- what `match` answers fills the pattern: however the holes behind it are held
 abbrev pub AllFormed : List Tree → Type 0

@@ -90,11 +90,11 @@ module _ {R : Type 0} {𝓐 : Arithmetic R} (𝓡 : StarSemiring 𝓐) {Γ : Con
 
   pub means_20 : Means Γ 𝓡 χ 20
   unfolding value
-  means_20 θ S (sca_dot (bra_0 a) b) = ≈-trans (zeros-mul 𝓡 _ _ _ (its b).columns) (Scalars.scalar-zero 𝓡)
+  means_20 θ S (sca_dot (bra_0 a) b) = ≈-trans (zeros-mul 𝓡 _ _ _ (its b).columns) (Scalars.scalar_zero 𝓡)
 
   pub means_21 : Means Γ 𝓡 χ 21
   unfolding value
-  means_21 θ S (sca_dot a (ket_0 b)) = ≈-trans (mul-zeros 𝓡 _ _ _ (its a).rows) (Scalars.scalar-zero 𝓡)
+  means_21 θ S (sca_dot a (ket_0 b)) = ≈-trans (mul-zeros 𝓡 _ _ _ (its a).rows) (Scalars.scalar_zero 𝓡)
 
   pub means_22 : Means Γ 𝓡 χ 22
   unfolding value

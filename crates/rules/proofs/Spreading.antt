@@ -7,7 +7,7 @@ use Rattle.algebra.specs.Matrices.{Matrix, ◌≈◌, HasShape, number, scalar a
 use Rattle.algebra.proofs.Semirings.{add-mul}
 use Rattle.algebra.proofs.Alike.{≈-refl, ≈-sym, ≈-trans, ≡→≈, number-≈}
 use Rattle.algebra.proofs.Shapes.{shape-scalar}
-use Rattle.term.specs.Heads.{Label, scalar-sum, scalar-product, conjugate, dot, adjoint, scale, add, tensor, mulk, mulb, outer, mulo}
+use Rattle.term.specs.Heads.{Label, scalar_sum, scalar_product, conjugate, dot, adjoint, scale, add, tensor, mulk, mulb, outer, mulo}
 use Rattle.term.specs.Trees.{Tree, Forest, node, none, ◌▹◌, ◌⧺◌, count}
 use Rattle.types.specs.Sorts.{Sort, Context}
 use Rattle.types.specs.Inside.{binds}
@@ -28,7 +28,7 @@ use Rattle.rules.proofs.Lines.{value}
 
 -- the five heads that multiply matrices, each with the head of what it makes of a sum
 pub data Times : Label → Label → Type 0 where
-  dots : Times dot scalar-sum
+  dots : Times dot scalar_sum
   on_kets : Times mulk add
   on_bras : Times mulb add
   outers : Times outer add
@@ -136,7 +136,7 @@ module _ {R : Type 0} {𝓐 : Arithmetic R} (𝓡 : StarSemiring 𝓐) {Γ : Con
   tensor_second S t f a (opt_tsr x y h k) =
       sum-spreads tensor (t ▹ none) f a arrays of_operators arrays of_operators (λ A. kronecker 𝓐 (value Γ 𝓡 χ t) A) (λ u. refl) (λ u e. opt_tsr x e h k) (kronecker-left 𝓡 _ (shape 𝓐 W F x)) y
 
-  pub conjugate_sum : First conjugate scalar-sum scalar-sum
+  pub conjugate_sum : First conjugate scalar_sum scalar_sum
   unfolding value whole_of sum-chain ◌⧺◌
   conjugate_sum S f a (sca_conj x) =
       sum-spreads conjugate none f a scalars of_sum scalars of_sum (λ A. scalar-matrix 𝓐 (𝓐.conj (number A))) (λ u. refl) (λ u e. sca_conj e) (numerical 𝓡 𝓐.conj 𝓡.conj_add) x
@@ -151,27 +151,27 @@ module _ {R : Type 0} {𝓐 : Arithmetic R} (𝓡 : StarSemiring 𝓐) {Γ : Con
         carries = λ A B a b. ≡→≈ (ap (scalar-matrix 𝓐) (𝓡.conj_mul (number A) (number B)));
       }
 
-  pub conjugate_product : First conjugate scalar-product scalar-product
+  pub conjugate_product : First conjugate scalar_product scalar_product
   unfolding value ◌⧺◌
   conjugate_product S f a (sca_conj x) =
       let k = links scalar_products x in
       carried conjugate none a (whole_of 𝓡 W F of_product) (whole_of 𝓡 W F of_product) (λ A. scalar-matrix 𝓐 (𝓐.conj (number A))) (λ u. refl) conj-carries f k.some k.every (λ u e. sca_conj e)
 
   -- 7: the factors before and behind stay
-  product_by : {T S : Sort} (b f a : Forest) → Of scalar-sum T → Of scalar-product S → Γ ⊢ node scalar-sum f ∶ T
-      → ((u : Tree) → Γ ⊢ u ∶ T → Γ ⊢ node scalar-product (b ⧺ u ▹ a) ∶ S)
-      → value Γ 𝓡 χ (node scalar-product (b ⧺ node scalar-sum f ▹ a)) ≈ value Γ 𝓡 χ (node scalar-sum (spread scalar-product b f a))
+  product_by : {T S : Sort} (b f a : Forest) → Of scalar_sum T → Of scalar_product S → Γ ⊢ node scalar_sum f ∶ T
+      → ((u : Tree) → Γ ⊢ u ∶ T → Γ ⊢ node scalar_product (b ⧺ u ▹ a) ∶ S)
+      → value Γ 𝓡 χ (node scalar_product (b ⧺ node scalar_sum f ▹ a)) ≈ value Γ 𝓡 χ (node scalar_sum (spread scalar_product b f a))
   unfolding value whole_of sum-chain
   product_by b f a of_sum of_product d again =
       let p = times 𝓐 (stands* 𝓐 Γ χ b) in
       let q = times 𝓐 (stands* 𝓐 Γ χ a) in
-      sum-spreads scalar-product b f a scalars of_sum scalars of_sum (λ A. scalar-matrix 𝓐 (𝓐.mul p (𝓐.mul (number A) q)))
+      sum-spreads scalar_product b f a scalars of_sum scalars of_sum (λ A. scalar-matrix 𝓐 (𝓐.mul p (𝓐.mul (number A) q)))
       (λ u. ap (scalar-matrix 𝓐) (times_around 𝓡 W F b u a)) again
       (numerical 𝓡 (λ x. 𝓐.mul p (𝓐.mul x q)) (λ x y. cc (add-mul 𝓡 x y q, 𝓡.mul_add p (𝓐.mul x q) (𝓐.mul y q)))) d
 
-  pub product_any : (S : Sort) (b f a : Forest) → Γ ⊢ node scalar-product (b ⧺ node scalar-sum f ▹ a) ∶ S
-      → value Γ 𝓡 χ (node scalar-product (b ⧺ node scalar-sum f ▹ a)) ≈ value Γ 𝓡 χ (node scalar-sum (spread scalar-product b f a))
+  pub product_any : (S : Sort) (b f a : Forest) → Γ ⊢ node scalar_product (b ⧺ node scalar_sum f ▹ a) ∶ S
+      → value Γ 𝓡 χ (node scalar_product (b ⧺ node scalar_sum f ▹ a)) ≈ value Γ 𝓡 χ (node scalar_sum (spread scalar_product b f a))
   unfolding binds
   product_any S b f a d =
-      let h = hole_of W {l = scalar-product} refl b (node scalar-sum f) a d in
+      let h = hole_of W {l = scalar_product} refl b (node scalar_sum f) a d in
       product_by b f a (links scalar_sums h.here).of (links scalar_products d).of h.here h.again

@@ -22,7 +22,7 @@ use Rattle.rules.specs.Statements.{StepDecided, StepKeepsType, StepsKeepType, St
 use Rattle.rules.proofs.AllTypes.{rule-keeps}
 use Rattle.rules.proofs.AllMeanings.{rule_means}
 use Rattle.rules.proofs.Rules.{decides}
-use Rattle.rules.proofs.Formed.{within-term_own}
+use Rattle.rules.proofs.Formed.{within_term_own}
 use Rattle.rules.proofs.Lines.{value}
 use Rattle.rules.proofs.Outcomes.{outcome}
 use Rattle.rules.proofs.Parts.{rewritten_type}
@@ -33,7 +33,7 @@ taken-type W {S} {t} {u} {s} d k =
     let p = part-typed W t s.place k.part S d k.there in
     let q = rule-keeps (inside_well W t s.place) s.rule k.r k.rule s.i s.j k.part k.new p.0 k.is p.1 in
     let e = rw (← k.result) at (replace-typed k.part k.new p.0 W t s.place S d k.there p.1 q) in
-    record { rules = e; form = within-term_own W e k.limits }
+    record { rules = e; form = within_term_own W e k.limits }
 
 outcome_type : {Γ : Context} (W : WellFormed Γ) {S : Sort} {t u : Tree} {s : Step} {c : ℕ} → Typed Γ S t → Outcome Γ t s c u → Typed Γ S u
 outcome_type W d (good u k) = taken-type W d.rules k

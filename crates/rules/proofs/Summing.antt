@@ -13,7 +13,7 @@ use Rattle.algebra.proofs.Alike.{≈-refl, ≡→≈, ≈-trans, add-≈}
 use Rattle.algebra.proofs.Ranges.{sum_zeros, sum-sums, sum_projectors, sum_deltas}
 use Rattle.algebra.proofs.Shapes.{same_rows, same-columns, shape-sum-matrices}
 use Rattle.words.specs.Listed.{lacks}
-use Rattle.term.specs.Heads.{Label, scalar-zero, scalar-sum, add, delta, basis-ket, basis-bra, outer, big-sum, bound-basis}
+use Rattle.term.specs.Heads.{Label, scalar_zero, scalar_sum, add, delta, basis_ket, basis_bra, outer, big_sum, bound_basis}
 use Rattle.term.specs.Trees.{Tree, Forest, node, none, ◌▹◌, ◌⧺◌, words}
 use Rattle.types.specs.Sorts.{Sort, basis, scalar, ket, bra, operator, Context, bind}
 use Rattle.types.specs.Rules.{◌⊢◌∶◌, ◌⊢*◌∶◌, every_none, every_more, basis_var, term_var, bound_var, pair_base, sca_0, sca_delta, sca_add, ket_add, bra_add, opt_add, sum_over, WellFormed}
@@ -38,8 +38,8 @@ module _ {R : Type 0} {𝓐 : Arithmetic R} (𝓡 : StarSemiring 𝓐) {Γ : Con
   abbrev In : Tree → ℕ → Tree → Meaning R
   In s p t = stands 𝓐 (bind s Γ) (run p χ) t
 
-  bound_steady : (s : Tree) (a : ℕ) {τ : Tree} → get_elem? (s ∷ Γ.bound) a ≡ some τ → is_unused (node (bound-basis a) none) ≡ true → (p q : ℕ)
-      → ((In s p (node (bound-basis a) none)).dimension ≡ (In s q (node (bound-basis a) none)).dimension) × ((In s p (node (bound-basis a) none)).position ≡ (In s q (node (bound-basis a) none)).position)
+  bound_steady : (s : Tree) (a : ℕ) {τ : Tree} → get_elem? (s ∷ Γ.bound) a ≡ some τ → is_unused (node (bound_basis a) none) ≡ true → (p q : ℕ)
+      → ((In s p (node (bound_basis a) none)).dimension ≡ (In s q (node (bound_basis a) none)).dimension) × ((In s p (node (bound_basis a) none)).position ≡ (In s q (node (bound_basis a) none)).position)
   unfolding stands meaning names meaning_of a_basis declared dimension push is_unused lacks
   bound_steady s zero e u p q = absurd (let z : ◌≡◌ {A = ℕ} 0 1 = cc in omega arith)
   bound_steady s (suc a) e u p q = (rw e, refl)
@@ -60,24 +60,24 @@ module _ {R : Type 0} {𝓐 : Arithmetic R} (𝓡 : StarSemiring 𝓐) {Γ : Con
 
   -- the basis that is bound last stands for the index at which its sum is
   abbrev projector : Tree
-  projector = node outer (node basis-ket (node (bound-basis 0) none ▹ none) ▹ node basis-bra (node (bound-basis 0) none ▹ none) ▹ none)
+  projector = node outer (node basis_ket (node (bound_basis 0) none ▹ none) ▹ node basis_bra (node (bound_basis 0) none ▹ none) ▹ none)
 
   projected : (s : Tree) → sum_matrices 𝓐 (dimension 𝓐 χ s) (λ p. (In s p projector).matrix) ≈ identity 𝓐 (dimension 𝓐 χ s)
   unfolding stands meaning names meaning_of first second product a_term a_basis declared dimension push
   projected s = sum_projectors 𝓡 (dimension 𝓐 χ s)
 
   at_once : {s t : Tree} → bind s Γ ⊢ t ∶ basis s → is_unused t ≡ true
-      → ◌≡◌ {A = ℕ → Matrix R} (λ p. (In s p (node delta (t ▹ node (bound-basis 0) none ▹ none))).matrix) (λ p. scalar-matrix 𝓐 (kronecker_delta 𝓐 (In s 0 t).position p))
+      → ◌≡◌ {A = ℕ → Matrix R} (λ p. (In s p (node delta (t ▹ node (bound_basis 0) none ▹ none))).matrix) (λ p. scalar-matrix 𝓐 (kronecker_delta 𝓐 (In s 0 t).position p))
   unfolding stands meaning names meaning_of first second a_term a_basis push
   at_once b u = λ i p. scalar-matrix 𝓐 (kronecker_delta 𝓐 ((steady b u p 0).1 i) p)
 
   -- the sum of the projectors onto all indices
-  projectors : (s : Tree) → (stands 𝓐 Γ χ s).dimension ≡ dimension 𝓐 χ s → (stands 𝓐 Γ χ (node big-sum (s ▹ projector ▹ none))).matrix ≈ identity 𝓐 (stands 𝓐 Γ χ s).dimension
+  projectors : (s : Tree) → (stands 𝓐 Γ χ s).dimension ≡ dimension 𝓐 χ s → (stands 𝓐 Γ χ (node big_sum (s ▹ projector ▹ none))).matrix ≈ identity 𝓐 (stands 𝓐 Γ χ s).dimension
   projectors s e = ≈-trans (≡→≈ (sum-stands 𝓐 Γ χ s projector e)) (≈-trans (projected s) (≡→≈ (ap (identity 𝓐) (sym e))))
 
   pub means_180 : Means Γ 𝓡 χ 180
   unfolding value
-  means_180 θ S (sum_over {s} a sca_0 h n) = ≈-trans (≡→≈ (sum-stands 𝓐 Γ χ s (node scalar-zero none) (sum_index 𝓐 W F a).0)) (sum_zeros 𝓡 (dimension 𝓐 χ s))
+  means_180 θ S (sum_over {s} a sca_0 h n) = ≈-trans (≡→≈ (sum-stands 𝓐 Γ χ s (node scalar_zero none) (sum_index 𝓐 W F a).0)) (sum_zeros 𝓡 (dimension 𝓐 χ s))
 
   pub means_181 : Means Γ 𝓡 χ 181
   unfolding value
@@ -85,7 +85,7 @@ module _ {R : Type 0} {𝓐 : Arithmetic R} (𝓡 : StarSemiring 𝓐) {Γ : Con
 
   -- a delta is 1 at one index alone
   deltas : {s t : Tree} → (stands 𝓐 Γ χ s).dimension ≡ dimension 𝓐 χ s → 1 ≤ dimension 𝓐 χ s → bind s Γ ⊢ t ∶ basis s → is_unused t ≡ true
-      → (stands 𝓐 Γ χ (node big-sum (s ▹ node delta (t ▹ node (bound-basis 0) none ▹ none) ▹ none))).matrix ≈ scalar-matrix 𝓐 𝓐.one
+      → (stands 𝓐 Γ χ (node big_sum (s ▹ node delta (t ▹ node (bound_basis 0) none ▹ none) ▹ none))).matrix ≈ scalar-matrix 𝓐 𝓐.one
   unfolding dimension
   deltas {s} {t} e from_one b u =
       ≈-trans (≡→≈ (sum-stands 𝓐 Γ χ s _ e ∙ ap (sum_matrices 𝓐 (dimension 𝓐 χ s)) (at_once b u)))
@@ -105,7 +105,7 @@ module _ {R : Type 0} {𝓐 : Arithmetic R} (𝓡 : StarSemiring 𝓐) {Γ : Con
     part-shape d p l = shaped p _ (shape 𝓐 (bind_well W s) (fits-run 𝓐 F s p l) d)
 
     plus-sums : (A : ℕ → Matrix R) → ((p : ℕ) → p < dimension 𝓐 χ s → HasShape (A p) r c) → {f : Forest} → bind s Γ ⊢* f ∶ T
-        → sum_matrices 𝓐 (dimension 𝓐 χ s) (λ p. plus 𝓐 (A p) (stands* 𝓐 (bind s Γ) (run p χ) f)) ≈ plus 𝓐 (sum_matrices 𝓐 (dimension 𝓐 χ s) A) (stands* 𝓐 Γ χ (spread big-sum (s ▹ none) f none))
+        → sum_matrices 𝓐 (dimension 𝓐 χ s) (λ p. plus 𝓐 (A p) (stands* 𝓐 (bind s Γ) (run p χ) f)) ≈ plus 𝓐 (sum_matrices 𝓐 (dimension 𝓐 χ s) A) (stands* 𝓐 Γ χ (spread big_sum (s ▹ none) f none))
     unfolding plus meaning spread ◌⧺◌ stands
     plus-sums A a every_none = ≈-refl _
     plus-sums A a (every_more {t} {f} d ds) =
@@ -118,14 +118,14 @@ module _ {R : Type 0} {𝓐 : Arithmetic R} (𝓡 : StarSemiring 𝓐) {Γ : Con
 
     pub total-sums : {t : Tree} {f : Forest} → bind s Γ ⊢ t ∶ T → bind s Γ ⊢* f ∶ T
         → sum_matrices 𝓐 (dimension 𝓐 χ s) (λ p. plus 𝓐 (In s p t).matrix (stands* 𝓐 (bind s Γ) (run p χ) f))
-        ≈ plus 𝓐 (stands 𝓐 Γ χ (node big-sum (s ▹ t ▹ none))).matrix (stands* 𝓐 Γ χ (spread big-sum (s ▹ none) f none))
+        ≈ plus 𝓐 (stands 𝓐 Γ χ (node big_sum (s ▹ t ▹ none))).matrix (stands* 𝓐 Γ χ (spread big_sum (s ▹ none) f none))
     total-sums {t} d ds = rw (sum-stands 𝓐 Γ χ s t low) (plus-sums (λ p. (In s p t).matrix) (part-shape d) ds)
 
-  pub distribute_means : {l : Label} {S : Sort} (s : Tree) (f : Forest) → Sum l → Γ ⊢ node big-sum (s ▹ node l f ▹ none) ∶ S
-      → value Γ 𝓡 χ (node big-sum (s ▹ node l f ▹ none)) ≈ value Γ 𝓡 χ (node l (spread big-sum (s ▹ none) f none))
+  pub distribute_means : {l : Label} {S : Sort} (s : Tree) (f : Forest) → Sum l → Γ ⊢ node big_sum (s ▹ node l f ▹ none) ∶ S
+      → value Γ 𝓡 χ (node big_sum (s ▹ node l f ▹ none)) ≈ value Γ 𝓡 χ (node l (spread big_sum (s ▹ none) f none))
   unfolding value spread ◌⧺◌ dimension
   distribute_means s f of_scalars (sum_over a (sca_add d ds) h n) =
-      let e = sum_index 𝓐 W F a in ≈-trans (≡→≈ (sum-stands 𝓐 Γ χ s (node scalar-sum f) e.0)) (total-sums s e.0 e.1 scalar {r = 1} {c = 1} (λ p x y. y) d ds)
+      let e = sum_index 𝓐 W F a in ≈-trans (≡→≈ (sum-stands 𝓐 Γ χ s (node scalar_sum f) e.0)) (total-sums s e.0 e.1 scalar {r = 1} {c = 1} (λ p x y. y) d ds)
   distribute_means s f of_arrays (sum_over a (ket_add {σ = σ} d ds) h n) =
       let e = sum_index 𝓐 W F a in ≈-trans (≡→≈ (sum-stands 𝓐 Γ χ s (node add f) e.0)) (total-sums s e.0 e.1 (ket σ) {r = dimension 𝓐 χ σ} {c = 1} (λ p x y. y) d ds)
   distribute_means s f of_arrays (sum_over a (bra_add {σ = σ} d ds) h n) =

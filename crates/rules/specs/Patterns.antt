@@ -1,6 +1,6 @@
 -- Patterns: terms with numbered holes.
 use Rattle.std.specs.Prelude.{ℕ}
-use Rattle.term.specs.Heads.{Label, scalar-zero}
+use Rattle.term.specs.Heads.{Label, scalar_zero}
 use Rattle.term.specs.Trees.{Tree, node, none}
 use Rattle.types.specs.Sorts.{Sort, index, basis, scalar, ket, bra, operator}
 
@@ -19,7 +19,7 @@ pub data Pattern : Type 0 where
 
 -- ---- the indices of a part's type
 abbrev pub no_index : Tree
-no_index = node scalar-zero none
+no_index = node scalar_zero none
 
 abbrev pub first_index : Sort → Tree
 first_index (index σ) = no_index

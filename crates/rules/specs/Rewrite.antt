@@ -4,37 +4,37 @@ use Rattle.std.specs.Prelude.{Bool, true, false, cond, ◌&&◌, ◌||◌, List,
 use Rattle.std.proofs.Math.Option.{Option, some, none as refused}
 use Rattle.words.specs.Listed.{or_else}
 use Rattle.words.specs.Words.{same_words}
-use Rattle.term.specs.Heads.{Label, type-name, basis_name, variable, index-product, pair, scalar-zero, scalar-one, scalar-sum, scalar-product, conjugate, delta, dot, zero-ket, zero-bra}
-use Rattle.term.specs.Heads.{zero-operator, identity, basis-ket, basis-bra, adjoint, scale, add, tensor, mulk, mulb, outer, mulo, big-sum, bound-basis, head_of, word}
+use Rattle.term.specs.Heads.{Label, type_name, basis_name, variable, index_product, pair, scalar_zero, scalar_one, scalar_sum, scalar_product, conjugate, delta, dot, zero_ket, zero_bra}
+use Rattle.term.specs.Heads.{zero_operator, identity, basis_ket, basis_bra, adjoint, scale, add, tensor, mulk, mulb, outer, mulo, big_sum, bound_basis, head_of, word}
 use Rattle.term.specs.Trees.{Tree, Forest, node, none, ◌▹◌, ◌⧺◌, count, words}
 use Rattle.types.specs.Sorts.{Sort, index, basis, scalar, ket, bra, operator, Context}
 use Rattle.types.specs.TypeOf.{Inferred, typed, untyped, type_of}
 use Rattle.rules.specs.Patterns.{Pattern, #◌, first, second, ◌⟨⟩, ◌⟨◌⟩, ◌⟨◌∣◌⟩, no_index, first_index, second_index}
-use Rattle.rules.specs.Table.{Condition, any, a-ket, a-bra, an-operator, unused, marked, Which, child, child_i, Summand, plain, scaled, Rule, ◌⇒◌▷◌, spreading, removing, absorbing, merging}
+use Rattle.rules.specs.Table.{Condition, any, a_ket, a_bra, an_operator, unused, marked, Which, child, child_i, Summand, plain, scaled, Rule, ◌⇒◌▷◌, spreading, removing, absorbing, merging}
 use Rattle.rules.specs.Table.{collecting, swapping, distributing}
 use Rattle.rules.specs.Instances.{is_unused, spread, factor}
 
 -- ---- heads
 -- a head without a name is known by its word
 abbrev pub nameless : Label → Bool
-nameless (type-name a) = false
+nameless (type_name a) = false
 nameless (basis_name a) = false
 nameless (variable a) = false
-nameless index-product = true
+nameless index_product = true
 nameless pair = true
-nameless scalar-zero = true
-nameless scalar-one = true
-nameless scalar-sum = true
-nameless scalar-product = true
+nameless scalar_zero = true
+nameless scalar_one = true
+nameless scalar_sum = true
+nameless scalar_product = true
 nameless conjugate = true
 nameless delta = true
 nameless dot = true
-nameless zero-ket = true
-nameless zero-bra = true
-nameless zero-operator = true
+nameless zero_ket = true
+nameless zero_bra = true
+nameless zero_operator = true
 nameless identity = true
-nameless basis-ket = true
-nameless basis-bra = true
+nameless basis_ket = true
+nameless basis_bra = true
 nameless adjoint = true
 nameless scale = true
 nameless add = true
@@ -43,8 +43,8 @@ nameless mulk = true
 nameless mulb = true
 nameless outer = true
 nameless mulo = true
-nameless big-sum = true
-nameless (bound-basis a) = false
+nameless big_sum = true
+nameless (bound_basis a) = false
 
 -- a label is the one that is wanted: their words over n children are the same
 unfoldable pub is_head : Label → Label → ℕ → Bool
@@ -84,9 +84,9 @@ is_operator (operator σ τ) = true
 
 abbrev pub wanted : Condition → Sort → Bool
 wanted any S = true
-wanted a-ket S = is_ket S
-wanted a-bra S = is_bra S
-wanted an-operator S = is_operator S
+wanted a_ket S = is_ket S
+wanted a_bra S = is_bra S
+wanted an_operator S = is_operator S
 wanted unused S = true
 wanted marked S = true
 
@@ -135,9 +135,9 @@ is_marked Γ (node l (t ▹ f)) = false
 unfoldable pub satisfied : Context → Condition → (ℕ → Tree) → Bool
 unfolding is_unused is_marked
 satisfied Γ any θ = true
-satisfied Γ a-ket θ = wanted a-ket (sort_of Γ (θ 0))
-satisfied Γ a-bra θ = wanted a-bra (sort_of Γ (θ 0))
-satisfied Γ an-operator θ = wanted an-operator (sort_of Γ (θ 0))
+satisfied Γ a_ket θ = wanted a_ket (sort_of Γ (θ 0))
+satisfied Γ a_bra θ = wanted a_bra (sort_of Γ (θ 0))
+satisfied Γ an_operator θ = wanted an_operator (sort_of Γ (θ 0))
 satisfied Γ unused θ = is_unused (θ 1)
 satisfied Γ marked θ = is_marked Γ (θ 0)
 
@@ -170,7 +170,7 @@ remove_at l c (opened b (node m f) a) = cond (is_head c m (count f) && ltb 0 (co
 
 unfoldable pub absorb_at : Opened → Option Tree
 absorb_at outside = refused
-absorb_at (opened b (node m f) a) = cond (is_head scalar-zero m (count f)) (some (node scalar-zero none)) refused
+absorb_at (opened b (node m f) a) = cond (is_head scalar_zero m (count f)) (some (node scalar_zero none)) refused
 
 unfoldable pub merge_at : Label → Opened → Option Tree
 merge_at l outside = refused
@@ -184,7 +184,7 @@ swap_at l (opened b t (u ▹ a)) = some (node l (b ⧺ u ▹ t ▹ a))
 -- over a sum of scalars, or else over one of arrays
 unfoldable pub distribute_at : Opened → Option Tree
 unfolding spread_at or_else
-distribute_at o = or_else (spread_at big-sum scalar-sum scalar-sum o) (spread_at big-sum add add o)
+distribute_at o = or_else (spread_at big_sum scalar_sum scalar_sum o) (spread_at big_sum add add o)
 
 -- a summand as its factor and its X
 pub data Multiple : Type 0 where
@@ -202,7 +202,7 @@ unfoldable pub collected : Forest → Forest → Forest → Multiple → Multipl
 collected b m a no_multiple q = refused
 collected b m a (multiple c x) no_multiple = refused
 collected b m a (multiple c x) (multiple d y) =
-    cond (same_words (words x) (words y)) (some (node add (b ⧺ m ⧺ a ⧺ node scale (node scalar-sum (c ▹ d ▹ none) ▹ x ▹ none) ▹ none))) refused
+    cond (same_words (words x) (words y)) (some (node add (b ⧺ m ⧺ a ⧺ node scale (node scalar_sum (c ▹ d ▹ none) ▹ x ▹ none) ▹ none))) refused
 
 -- child j is opened first, and then child i among those before it
 unfoldable pub collect_before : Summand → Summand → Tree → Forest → Opened → Option Tree
@@ -215,7 +215,7 @@ collect_at u v i (opened b t a) = collect_before u v t a (open_at b i)
 
 -- ---- every rule
 unfoldable pub is_chain : Label → ℕ → Bool
-is_chain m n = is_head scalar-sum m n || (is_head scalar-product m n || is_head add m n)
+is_chain m n = is_head scalar_sum m n || (is_head scalar_product m n || is_head add m n)
 
 unfoldable pub is_loose : Label → ℕ → Bool
 unfolding is_chain
@@ -234,8 +234,8 @@ rewrite Γ (k ⇒ l ▷ r) i j t = cond (eqb i 0 && eqb j 0) (filled Γ k r (mat
 rewrite Γ (spreading l w s r) i j (node m f) =
     cond (eqb j 0 && (usable w i && is_head l m (count f))) (spread_at l s r (open_at f (place w i))) refused
 rewrite Γ (removing l c) i j (node m f) = cond (eqb j 0 && is_head l m (count f)) (remove_at l c (open_at f i)) refused
-rewrite Γ absorbing i j (node m f) = cond (eqb j 0 && is_head scalar-product m (count f)) (absorb_at (open_at f i)) refused
+rewrite Γ absorbing i j (node m f) = cond (eqb j 0 && is_head scalar_product m (count f)) (absorb_at (open_at f i)) refused
 rewrite Γ merging i j (node m f) = cond (eqb j 0 && is_chain m (count f)) (merge_at m (open_at f i)) refused
 rewrite Γ (collecting u v) i j (node m f) = cond (is_head add m (count f)) (collect_at u v i (open_at f j)) refused
 rewrite Γ swapping i j (node m f) = cond (eqb j 0 && is_loose m (count f)) (swap_at m (open_at f i)) refused
-rewrite Γ distributing i j (node m f) = cond (eqb j 0 && (usable (child 1) i && is_head big-sum m (count f))) (distribute_at (open_at f (place (child 1) i))) refused
+rewrite Γ distributing i j (node m f) = cond (eqb j 0 && (usable (child 1) i && is_head big_sum m (count f))) (distribute_at (open_at f (place (child 1) i))) refused

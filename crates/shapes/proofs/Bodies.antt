@@ -10,7 +10,7 @@ use borrow.Author.Tests.{eqb-true, eq-eqb, ne_eqb, lt-ltb, le-ltb}
 use lib.Dec.{eqb}
 use lib.ListN.{length, get_or, drop, length-append}
 use lib.Seq.{drop-drop, drop_at}
-use Rattle.term.specs.Heads.{Label, big-sum, heads, unread, labelled, reading, read}
+use Rattle.term.specs.Heads.{Label, big_sum, heads, unread, labelled, reading, read}
 use Rattle.term.specs.Trees.{Tree, Forest, node, none, ◌▹◌, count, ◌⧺◌, words, words*, Formed, Formed*, subtree}
 use Rattle.term.specs.Terms.{max_bodies}
 use Rattle.term.proofs.Parsing.{count-⧺, words*-⧺, Formed*-⧺}
@@ -26,20 +26,20 @@ use Rattle.shapes.specs.Statements.{BoundInside}
 use Rattle.shapes.proofs.Begun.{at_front, part_of}
 
 -- ---- a head that binds is a sum
-sum-read : (w : ℕ) (l : Label) (n : ℕ) → read w ≡ labelled l n → w / 256 ≡ 27 → (l ≡ big-sum) × (n ≡ 2)
+sum-read : (w : ℕ) (l : Label) (n : ℕ) → read w ≡ labelled l n → w / 256 ≡ 27 → (l ≡ big_sum) × (n ≡ 2)
 unfolding read heads reading
 sum-read w l n e z = go (eqb (w % 256) 0) (rw z at e)
   where
-    go : (b : Bool) → cond b (labelled big-sum 2) unread ≡ labelled l n → (l ≡ big-sum) × (n ≡ 2)
+    go : (b : Bool) → cond b (labelled big_sum 2) unread ≡ labelled l n → (l ≡ big_sum) × (n ≡ 2)
     go true e = (cc, cc)
     go false e = absurd (let z : ◌≡◌ {A = ℕ} 0 1 = cc in omega arith)
 
 -- it has an index and a body
-pub binds-is : (w : ℕ) (l : Label) (n : ℕ) → read w ≡ labelled l n → binds l ≡ true → (l ≡ big-sum) × (n ≡ 2)
+pub binds-is : (w : ℕ) (l : Label) (n : ℕ) → read w ≡ labelled l n → binds l ≡ true → (l ≡ big_sum) × (n ≡ 2)
 binds-is w l n e b = sum-read w l n e (eqb-true _ 27 (sym (binds-word w l n e) ∙ b))
 
 -- and room for one more body, where it is typed
-pub roomy : {Γ : Context} → WellFormed Γ → (l : Label) (cs : Forest) (S : Sort) → Γ ⊢ node l cs ∶ S → l ≡ big-sum → length Γ.bound < max_bodies
+pub roomy : {Γ : Context} → WellFormed Γ → (l : Label) (cs : Forest) (S : Sort) → Γ ⊢ node l cs ∶ S → l ≡ big_sum → length Γ.bound < max_bodies
 unfolding inside subtree
 roomy {Γ} W l cs S d e =
     elim (dec_lt (length Γ.bound) max_bodies) [

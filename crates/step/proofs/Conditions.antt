@@ -19,7 +19,7 @@ use Rattle.types.specs.Sorts.{Sort, index, basis, scalar, ket, bra, operator, Co
 use Rattle.types.proofs.Indices.{bodies_well}
 use Rattle.declarations.proofs.Entries.{well_formed}
 use Rattle.declarations.specs.Declarations.{context_in, context_at, marked_word}
-use Rattle.rules.specs.Table.{Condition, any, a-ket, a-bra, an-operator, unused, marked}
+use Rattle.rules.specs.Table.{Condition, any, a_ket, a_bra, an_operator, unused, marked}
 use Rattle.rules.specs.Instances.{is_unused}
 use Rattle.rules.specs.Rewrite.{sort_of, wanted, is_marked, satisfied, holes}
 use Rattle.rules.proofs.Lines.{not_so, sort-is}
@@ -35,7 +35,7 @@ use Rattle.step.proofs.Indices.{class-is}
 use Rattle.step.proofs.Pieces.{met-tree, caught_run, caught_sort}
 
 -- the classes that the kinds have, from 4 on
-classes : (S : Sort) → let n = number_of (shape_of S).class in (eqb n 4 ≡ wanted a-ket S) × (eqb n 5 ≡ wanted a-bra S) × (eqb n 6 ≡ wanted an-operator S)
+classes : (S : Sort) → let n = number_of (shape_of S).class in (eqb n 4 ≡ wanted a_ket S) × (eqb n 5 ≡ wanted a_bra S) × (eqb n 6 ≡ wanted an_operator S)
 classes (index σ) = (refl, refl, refl)
 classes (basis σ) = (refl, refl, refl)
 classes scalar = (refl, refl, refl)
@@ -45,14 +45,14 @@ classes (operator σ τ) = (refl, refl, refl)
 
 -- a condition is told by its number
 condition_at : ℕ → Condition
-condition_at n = get_or (any ∷ a-ket ∷ a-bra ∷ an-operator ∷ unused ∷ marked ∷ []) n any
+condition_at n = get_or (any ∷ a_ket ∷ a_bra ∷ an_operator ∷ unused ∷ marked ∷ []) n any
 
 condition-at : (k : Condition) → condition_at (condition_number k) ≡ k
 unfolding condition_at
 condition-at any = refl
-condition-at a-ket = refl
-condition-at a-bra = refl
-condition-at an-operator = refl
+condition-at a_ket = refl
+condition-at a_bra = refl
+condition-at an_operator = refl
 condition-at unused = refl
 condition-at marked = refl
 
@@ -68,9 +68,9 @@ record OfKind (k : Condition) : Type 0 where
 of_kind : (k : Condition) → condition_number k ≢ 0 → condition_number k ≢ 4 → condition_number k ≢ 5 → OfKind k
 unfolding satisfied of_words
 of_kind any h o m = absurd (h refl)
-of_kind a-ket h o m = record { class = λ S. (classes S).0; first = λ Γ θ. refl; types = λ e. not_so e }
-of_kind a-bra h o m = record { class = λ S. (classes S).1; first = λ Γ θ. refl; types = λ e. not_so e }
-of_kind an-operator h o m = record { class = λ S. (classes S).2; first = λ Γ θ. refl; types = λ e. not_so e }
+of_kind a_ket h o m = record { class = λ S. (classes S).0; first = λ Γ θ. refl; types = λ e. not_so e }
+of_kind a_bra h o m = record { class = λ S. (classes S).1; first = λ Γ θ. refl; types = λ e. not_so e }
+of_kind an_operator h o m = record { class = λ S. (classes S).2; first = λ Γ θ. refl; types = λ e. not_so e }
 of_kind unused h o m = absurd (o refl)
 of_kind marked h o m = absurd (m refl)
 
@@ -78,17 +78,17 @@ of_kind marked h o m = absurd (m refl)
 pub first-asks : (k : Condition) → condition_number k ≢ 0 → (n : ℕ) → asked k n ≡ true → 0 < n
 unfolding asked
 first-asks any h n e = absurd (h refl)
-first-asks a-ket h n e = ltb-true 0 n e
-first-asks a-bra h n e = ltb-true 0 n e
-first-asks an-operator h n e = ltb-true 0 n e
+first-asks a_ket h n e = ltb-true 0 n e
+first-asks a_bra h n e = ltb-true 0 n e
+first-asks an_operator h n e = ltb-true 0 n e
 first-asks unused h n e = let l = ltb-true 1 n e in omega arith
 first-asks marked h n e = ltb-true 0 n e
 
 pub condition-few : {n : ℕ} (k : Condition) → n ≡ condition_number k → n ≤ 5
 condition-few any e = rw e (omega arith)
-condition-few a-ket e = rw e (omega arith)
-condition-few a-bra e = rw e (omega arith)
-condition-few an-operator e = rw e (omega arith)
+condition-few a_ket e = rw e (omega arith)
+condition-few a_bra e = rw e (omega arith)
+condition-few an_operator e = rw e (omega arith)
 condition-few unused e = rw e (omega arith)
 condition-few marked e = rw e (omega arith)
 

@@ -12,7 +12,7 @@ use lib.ListN.{length, take, drop, replicate, length-drop}
 use lib.Seq.{drop-append-le}
 use Rattle.algebra.specs.Semirings.{Arithmetic, StarSemiring}
 use Rattle.words.specs.Words.{cleared, same_words}
-use Rattle.words.proofs.Runs.{same-words, same-words_eq, agreeing-take, agreeing-differ}
+use Rattle.words.proofs.Runs.{same-words, same_words_eq, agreeing-take, agreeing-differ}
 use Rattle.words.specs.Listed.{up_to}
 use Rattle.words.proofs.Listed.{length-up_to, up_to_split}
 use Rattle.term.specs.Parts.{parse, tree_in}
@@ -136,7 +136,7 @@ module _ (d : Derivation) where
         order = b.order;
         taken = a;
         same = same_end
-            (all_typed (well_formed d.ds b.left_term.good) (both b) a) (same-words_eq _ _ e);
+            (all_typed (well_formed d.ds b.left_term.good) (both b) a) (same_words_eq _ _ e);
       }))
   ends_by {q} false b a e =
       let t = all_typed (well_formed d.ds b.left_term.good) (both b) a in

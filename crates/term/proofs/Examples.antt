@@ -4,7 +4,7 @@ use mathlib.Core.Bool.{true, false}
 use mathlib.Core.List.{List, [], ◌∷◌}
 use Prim.Native.Nat.{ℕ, ◌+◌, ◌*◌}
 use Rattle.term.specs.declared.terms.Names.{Names}
-use Rattle.term.specs.Heads.{word, read, unread, labelled, scalar-sum, mulk, adjoint, identity, basis-ket, type-name, basis_name}
+use Rattle.term.specs.Heads.{word, read, unread, labelled, scalar_sum, mulk, adjoint, identity, basis_ket, type_name, basis_name}
 use Rattle.term.specs.Trees.{Tree, node, none, ◌▹◌, words, depth, replace}
 use Rattle.term.specs.Parts.{part, part_depth}
 use Rattle.term.specs.Terms.{declared, term_words, is_term}
@@ -14,7 +14,7 @@ abbrev left : List ℕ
 left = 5632 ∷ 4608 ∷ 3840 ∷ 256 ∷ 4096 ∷ 768 ∷ []
 
 abbrev left_tree : Tree
-left_tree = node mulk (node adjoint (node identity (node (type-name 0) none ▹ none) ▹ none) ▹ node basis-ket (node (basis_name 0) none ▹ none) ▹ none)
+left_tree = node mulk (node adjoint (node identity (node (type_name 0) none ▹ none) ▹ none) ▹ node basis_ket (node (basis_name 0) none ▹ none) ▹ none)
 
 abbrev names : Names
 names = record { types = 1; bases = 1; variables = 1 }
@@ -30,7 +30,7 @@ the-session :
     × (term_words names left ≡ true)
     × (is_term names left 5 ≡ false)
     × (is_term names left 7 ≡ false)
-    × (words (replace left_tree 1 (node identity (node (type-name 0) none ▹ none))) ≡ 5632 ∷ 3840 ∷ 256 ∷ 4096 ∷ 768 ∷ [])
+    × (words (replace left_tree 1 (node identity (node (type_name 0) none ▹ none))) ≡ 5632 ∷ 3840 ∷ 256 ∷ 4096 ∷ 768 ∷ [])
 unfolding words word depth part part_depth term_words is_term declared replace read
 the-session = (refl, refl, refl, refl, refl, refl, refl, refl, refl, refl, refl)
 
@@ -38,7 +38,7 @@ the-session = (refl, refl, refl, refl, refl, refl, refl, refl, refl, refl, refl)
 the-edges :
     (read (5 * 256 + 1) ≡ unread)
     × (read (7 * 256) ≡ unread)
-    × (read (7 * 256 + 255) ≡ labelled scalar-sum 255)
+    × (read (7 * 256 + 255) ≡ labelled scalar_sum 255)
     × (read (29 * 256) ≡ unread)
     × (part (512 ∷ 256 ∷ []) 0 ≡ [])
     × (part (1536 ∷ 65535 ∷ []) 0 ≡ 1536 ∷ [])

@@ -8,8 +8,8 @@ use native.Mathlib.Omega.{arith}
 use lib.Dec.{T, leb, leb→le, eqb-suc-zero}
 use lib.ListN.{length, get_or}
 use Rattle.term.specs.declared.heads.Class.{Class}
-use Rattle.term.specs.Heads.{Label, type-name, basis_name, variable, index-product, pair, scalar-zero, scalar-one, scalar-sum, scalar-product, conjugate, delta, dot, zero-ket}
-use Rattle.term.specs.Heads.{zero-bra, zero-operator, identity, basis-ket, basis-bra, adjoint, scale, add, tensor, mulk, mulb, outer, mulo, bound-basis, big-sum, Head, unknown, named}
+use Rattle.term.specs.Heads.{Label, type_name, basis_name, variable, index_product, pair, scalar_zero, scalar_one, scalar_sum, scalar_product, conjugate, delta, dot, zero_ket}
+use Rattle.term.specs.Heads.{zero_bra, zero_operator, identity, basis_ket, basis_bra, adjoint, scale, add, tensor, mulk, mulb, outer, mulo, bound_basis, big_sum, Head, unknown, named}
 use Rattle.term.specs.Heads.{fixed, counted, heads, head_of, word, unread, labelled, reading, read}
 
 -- the labels of line k are written with head k
@@ -84,23 +84,23 @@ Written l a (counted k c c') = k ≡ l
 
 pub label_line : (l : Label) (n : ℕ) → Written l (head_of l n).1 (get_or heads (head_of l n).0 unknown)
 unfolding heads head_of
-label_line (type-name a) n = refl
-label_line index-product n = refl
+label_line (type_name a) n = refl
+label_line index_product n = refl
 label_line (basis_name a) n = refl
 label_line pair n = refl
-label_line scalar-zero n = refl
-label_line scalar-one n = refl
-label_line scalar-sum n = refl
-label_line scalar-product n = refl
+label_line scalar_zero n = refl
+label_line scalar_one n = refl
+label_line scalar_sum n = refl
+label_line scalar_product n = refl
 label_line conjugate n = refl
 label_line delta n = refl
 label_line dot n = refl
-label_line zero-ket n = refl
-label_line zero-bra n = refl
-label_line zero-operator n = refl
+label_line zero_ket n = refl
+label_line zero_bra n = refl
+label_line zero_operator n = refl
 label_line identity n = refl
-label_line basis-ket n = refl
-label_line basis-bra n = refl
+label_line basis_ket n = refl
+label_line basis_bra n = refl
 label_line adjoint n = refl
 label_line scale n = refl
 label_line add n = refl
@@ -110,8 +110,8 @@ label_line mulb n = refl
 label_line outer n = refl
 label_line mulo n = refl
 label_line (variable a) n = refl
-label_line big-sum n = refl
-label_line (bound-basis a) n = refl
+label_line big_sum n = refl
+label_line (bound_basis a) n = refl
 
 -- what is written for a label of a line is read as it
 module _ (k : ℕ) where

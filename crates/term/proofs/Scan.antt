@@ -36,12 +36,12 @@ pub children_few : (w n : ℕ) → arity_of w ≡ Children n → n ≤ 255
 children_few w n e = let r = read_children w n e in read-few w r.0 n r.1
 
 -- ---- chopping
-chop-short_by : {n : ℕ} {f : Forest} {c : Cut} → count f < n → Chopped n f c → c ≡ short
-chop-short_by h (too_few k) = refl
-chop-short_by h (taken a b e k) = absurd (let z = ap count e ∙ count-⧺ a b in omega arith)
+chop_short_by : {n : ℕ} {f : Forest} {c : Cut} → count f < n → Chopped n f c → c ≡ short
+chop_short_by h (too_few k) = refl
+chop_short_by h (taken a b e k) = absurd (let z = ap count e ∙ count-⧺ a b in omega arith)
 
 pub chop-short : (n : ℕ) (f : Forest) → count f < n → chop n f ≡ short
-chop-short n f h = chop-short_by h (chopped n f)
+chop-short n f h = chop_short_by h (chopped n f)
 
 prepend : Forest → Cut → Cut
 prepend a short = short

@@ -6,11 +6,11 @@ use Rattle.term.specs.declared.heads.Class.TheVariants.{Nothing, Index, Basis, S
 
 -- A head with its name, if it has one: what a node of a tree carries. The number of its children is the tree's to say
 pub data Label : Type 0 where
-  type-name basis_name variable bound-basis : ℕ → Label
-  index-product pair : Label
-  scalar-zero scalar-one scalar-sum scalar-product conjugate delta dot : Label
-  zero-ket zero-bra zero-operator identity basis-ket basis-bra : Label
-  adjoint scale add tensor mulk mulb outer mulo big-sum : Label
+  type_name basis_name variable bound_basis : ℕ → Label
+  index_product pair : Label
+  scalar_zero scalar_one scalar_sum scalar_product conjugate delta dot : Label
+  zero_ket zero_bra zero_operator identity basis_ket basis_bra : Label
+  adjoint scale add tensor mulk mulb outer mulo big_sum : Label
 
 -- A line of the table: the label, the sort of the result, the sorts of the children.
 -- `named`: h:a, the low byte is a name. `counted`: h:n, the low byte is the number of children. `fixed`: the low byte is 0
@@ -25,23 +25,23 @@ pub data Head : Type 0 where
 unfoldable pub heads : List Head
 heads =
     unknown
-    ∷ named type-name Index
-    ∷ fixed index-product Index (Index ∷ Index ∷ [])
+    ∷ named type_name Index
+    ∷ fixed index_product Index (Index ∷ Index ∷ [])
     ∷ named basis_name Basis
     ∷ fixed pair Basis (Basis ∷ Basis ∷ [])
-    ∷ fixed scalar-zero Scalar []
-    ∷ fixed scalar-one Scalar []
-    ∷ counted scalar-sum Scalar Scalar
-    ∷ counted scalar-product Scalar Scalar
+    ∷ fixed scalar_zero Scalar []
+    ∷ fixed scalar_one Scalar []
+    ∷ counted scalar_sum Scalar Scalar
+    ∷ counted scalar_product Scalar Scalar
     ∷ fixed conjugate Scalar (Scalar ∷ [])
     ∷ fixed delta Scalar (Basis ∷ Basis ∷ [])
     ∷ fixed dot Scalar (Bra ∷ Ket ∷ [])
-    ∷ fixed zero-ket Ket (Index ∷ [])
-    ∷ fixed zero-bra Bra (Index ∷ [])
-    ∷ fixed zero-operator Operator (Index ∷ Index ∷ [])
+    ∷ fixed zero_ket Ket (Index ∷ [])
+    ∷ fixed zero_bra Bra (Index ∷ [])
+    ∷ fixed zero_operator Operator (Index ∷ Index ∷ [])
     ∷ fixed identity Operator (Index ∷ [])
-    ∷ fixed basis-ket Ket (Basis ∷ [])
-    ∷ fixed basis-bra Bra (Basis ∷ [])
+    ∷ fixed basis_ket Ket (Basis ∷ [])
+    ∷ fixed basis_bra Bra (Basis ∷ [])
     ∷ fixed adjoint Array (Array ∷ [])
     ∷ fixed scale Array (Scalar ∷ Array ∷ [])
     ∷ counted add Array Array
@@ -51,29 +51,29 @@ heads =
     ∷ fixed outer Operator (Ket ∷ Bra ∷ [])
     ∷ fixed mulo Operator (Operator ∷ Operator ∷ [])
     ∷ named variable Term
-    ∷ fixed big-sum Term (Index ∷ Term ∷ [])
-    ∷ named bound-basis Basis
+    ∷ fixed big_sum Term (Index ∷ Term ∷ [])
+    ∷ named bound_basis Basis
     ∷ []
 
 -- the head of a label over n children, and what it carries beside it: its name, or n where it counts its children
 unfoldable pub head_of : Label → ℕ → ℕ × ℕ
-head_of (type-name a) n = (1, a)
-head_of index-product n = (2, 0)
+head_of (type_name a) n = (1, a)
+head_of index_product n = (2, 0)
 head_of (basis_name a) n = (3, a)
 head_of pair n = (4, 0)
-head_of scalar-zero n = (5, 0)
-head_of scalar-one n = (6, 0)
-head_of scalar-sum n = (7, n)
-head_of scalar-product n = (8, n)
+head_of scalar_zero n = (5, 0)
+head_of scalar_one n = (6, 0)
+head_of scalar_sum n = (7, n)
+head_of scalar_product n = (8, n)
 head_of conjugate n = (9, 0)
 head_of delta n = (10, 0)
 head_of dot n = (11, 0)
-head_of zero-ket n = (12, 0)
-head_of zero-bra n = (13, 0)
-head_of zero-operator n = (14, 0)
+head_of zero_ket n = (12, 0)
+head_of zero_bra n = (13, 0)
+head_of zero_operator n = (14, 0)
 head_of identity n = (15, 0)
-head_of basis-ket n = (16, 0)
-head_of basis-bra n = (17, 0)
+head_of basis_ket n = (16, 0)
+head_of basis_bra n = (17, 0)
 head_of adjoint n = (18, 0)
 head_of scale n = (19, 0)
 head_of add n = (20, n)
@@ -83,8 +83,8 @@ head_of mulb n = (23, 0)
 head_of outer n = (24, 0)
 head_of mulo n = (25, 0)
 head_of (variable a) n = (26, a)
-head_of big-sum n = (27, 0)
-head_of (bound-basis a) n = (28, a)
+head_of big_sum n = (27, 0)
+head_of (bound_basis a) n = (28, a)
 
 -- 01: "A word is head × 256 + a". The word of a label over n children
 unfoldable pub word : Label → ℕ → ℕ

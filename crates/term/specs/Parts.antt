@@ -4,7 +4,7 @@ use Rattle.std.specs.Prelude.{◌≡◌, List, [], ◌∷◌, ℕ, zero, suc, �
 use Rattle.std.specs.Borrow.{Bor}
 use Rattle.term.specs.declared.parts.Side.{Side}
 use Rattle.term.specs.declared.parts.Side.TheVariants.{Left, Right}
-use Rattle.term.specs.Heads.{Label, scalar-zero, Reading, unread, labelled, read}
+use Rattle.term.specs.Heads.{Label, scalar_zero, Reading, unread, labelled, read}
 use Rattle.term.specs.Trees.{Tree, Forest, node, none, ◌▹◌, words, Formed, depth}
 
 -- the first n trees of a row, and those behind them; `short` where there are fewer
@@ -48,7 +48,7 @@ first (t ▹ f) = words t
 
 -- the same as a tree, where there is one
 unfoldable pub tree_in : Forest → Tree
-tree_in none = node scalar-zero none
+tree_in none = node scalar_zero none
 tree_in (t ▹ f) = t
 
 -- The part that begins at an offset. 01: "an empty part when the offset is not below the length or no whole part begins there; this is their only empty answer"

@@ -10,8 +10,8 @@ use lib.Dec.{eqb-suc-zero}
 use lib.ListN.{length, get_or}
 use Rattle.term.specs.declared.heads.Class.TheVariants.{Index, Basis}
 use Rattle.words.specs.Words.{same_words}
-use Rattle.term.specs.Heads.{Label, Head, unknown, named, fixed, counted, heads, unread, labelled, reading, read, result_of, child_of, index-product, pair, scalar-zero, scalar-one, conjugate}
-use Rattle.term.specs.Heads.{delta, dot, zero-ket, zero-bra, zero-operator, identity, basis-ket, basis-bra, adjoint, scale, tensor, mulk, mulb, outer, mulo, big-sum}
+use Rattle.term.specs.Heads.{Label, Head, unknown, named, fixed, counted, heads, unread, labelled, reading, read, result_of, child_of, index_product, pair, scalar_zero, scalar_one, conjugate}
+use Rattle.term.specs.Heads.{delta, dot, zero_ket, zero_bra, zero_operator, identity, basis_ket, basis_bra, adjoint, scale, tensor, mulk, mulb, outer, mulo, big_sum}
 use Rattle.term.specs.Terms.{max_bodies}
 use Rattle.term.proofs.Readings.{Every, every_at, ◌⨾◌}
 use Rattle.typebook.specs.Code.Shapes.{shape_of}
@@ -57,22 +57,22 @@ unfolding heads binds rule_at rules conclude child_of result_of by_line met clas
 rows =
     tt
     ⨾ tt
-    ⨾ paired 2 index-product (λ s t Γ n. on_index concluded s λ σ e. on_index concluded t λ τ k. rw (e, k) (left-product Index index (λ ρ. refl) σ τ))
+    ⨾ paired 2 index_product (λ s t Γ n. on_index concluded s λ σ e. on_index concluded t λ τ k. rw (e, k) (left-product Index index (λ ρ. refl) σ τ))
     ⨾ tt
     ⨾ paired 4 pair (λ s t Γ n. on_basis concluded s λ σ e. on_basis concluded t λ τ k. rw (e, k) (left-product Basis basis (λ ρ. refl) σ τ))
-    ⨾ childless 5 scalar-zero
-    ⨾ childless 6 scalar-one
+    ⨾ childless 5 scalar_zero
+    ⨾ childless 6 scalar_one
     ⨾ (λ s ss Γ n. scalars_law s ss)
     ⨾ (λ s ss Γ n. scalars_law s ss)
     ⨾ alone 9 conjugate (λ s Γ n. on_scalar concluded s λ e. refl)
     ⨾ paired 10 delta (λ s t Γ n. on_basis concluded s λ σ e. on_basis concluded t λ τ k. rw (e, k) (on_same σ τ _))
     ⨾ paired 11 dot (λ s t Γ n. on_bra concluded s λ σ e. on_ket concluded t λ τ k. rw (e, k) (on_same σ τ _))
-    ⨾ alone 12 zero-ket (λ s Γ n. on_index concluded s λ σ e. rw e)
-    ⨾ alone 13 zero-bra (λ s Γ n. on_index concluded s λ σ e. rw e)
-    ⨾ paired 14 zero-operator (λ s t Γ n. on_index concluded s λ σ e. on_index concluded t λ τ k. rw (e, k))
+    ⨾ alone 12 zero_ket (λ s Γ n. on_index concluded s λ σ e. rw e)
+    ⨾ alone 13 zero_bra (λ s Γ n. on_index concluded s λ σ e. rw e)
+    ⨾ paired 14 zero_operator (λ s t Γ n. on_index concluded s λ σ e. on_index concluded t λ τ k. rw (e, k))
     ⨾ alone 15 identity (λ s Γ n. on_index concluded s λ σ e. rw e)
-    ⨾ alone 16 basis-ket (λ s Γ n. on_basis concluded s λ σ e. rw e)
-    ⨾ alone 17 basis-bra (λ s Γ n. on_basis concluded s λ σ e. rw e)
+    ⨾ alone 16 basis_ket (λ s Γ n. on_basis concluded s λ σ e. rw e)
+    ⨾ alone 17 basis_bra (λ s Γ n. on_basis concluded s λ σ e. rw e)
     ⨾ alone 18 adjoint (λ s Γ n. one-adjoint s Γ)
     ⨾ paired 19 scale (λ s t Γ n. on_scalar concluded s λ e. on_array t)
     ⨾ (λ s ss Γ n. sum_law s ss)
@@ -82,7 +82,7 @@ rows =
     ⨾ paired 24 outer (λ s t Γ n. on_ket concluded s λ σ e. on_bra concluded t λ τ k. rw (e, k))
     ⨾ paired 25 mulo (λ s t Γ n. on_operator concluded s λ σ τ e. on_operator concluded t λ υ ρ k. rw (e, k) (on_same τ υ _))
     ⨾ tt
-    ⨾ paired 27 big-sum (λ s t Γ n. rw (lt-ltb _ _ (n refl)) (on_index concluded s λ σ e. on_body t))
+    ⨾ paired 27 big_sum (λ s t Γ n. rw (lt-ltb _ _ (n refl)) (on_index concluded s λ σ e. on_body t))
     ⨾ tt
     ⨾ tt
 

@@ -7,7 +7,7 @@ use native.Mathlib.Omega.{arith}
 use borrow.Author.Tests.{lt-ltb, le-leb, ne_eqb, ltb-true, leb-true}
 use lib.Dec.{eqb, leb, ltb}
 use lib.ListN.{length, get_or}
-use Rattle.term.specs.Heads.{Label, type-name, index-product, unknown, heads, head_of}
+use Rattle.term.specs.Heads.{Label, type_name, index_product, unknown, heads, head_of}
 use Rattle.term.specs.Trees.{Tree, Forest, node, none, ◌▹◌, count, words}
 use Rattle.term.specs.Terms.{max_index}
 use Rattle.term.proofs.Readings.{Written, label_line}
@@ -114,8 +114,8 @@ module _ {Γ : Context} (W : WellFormed Γ) where
 
 -- a label by its head: a type name, a product of indices, or neither
 data Headed : Label → ℕ × ℕ → Type 0 where
-  names : (a : ℕ) → Headed (type-name a) (1, a)
-  multiplies : {a : ℕ} → Headed index-product (2, a)
+  names : (a : ℕ) → Headed (type_name a) (1, a)
+  multiplies : {a : ℕ} → Headed index_product (2, a)
   neither : {l : Label} {p : ℕ × ℕ} → eqb p.0 1 ≡ false → eqb p.0 2 ≡ false → Headed l p
 
 headed : (l : Label) → Headed l (head_of l 0)
@@ -124,8 +124,8 @@ headed l = go (head_of l 0).0 (head_of l 0).1 (label_line l 0)
   where
     go : (k a : ℕ) → Written l a (get_or heads k unknown) → Headed l (k, a)
     go zero a w = neither refl refl
-    go (suc zero) a w = let z : type-name a ≡ l = w in rw (← z) (names a)
-    go (suc (suc zero)) a w = let z : index-product ≡ l = w in rw (← z) multiplies
+    go (suc zero) a w = let z : type_name a ≡ l = w in rw (← z) (names a)
+    go (suc (suc zero)) a w = let z : index_product ≡ l = w in rw (← z) multiplies
     go (suc (suc (suc k))) a w = neither (ne_eqb (suc (suc (suc k))) 1 (omega arith)) (ne_eqb (suc (suc (suc k))) 2 (omega arith))
 
 -- what passes the test is an index

@@ -4,7 +4,7 @@ use mathlib.Core.Bool.{Bool, true, false, cond, ◌&&◌}
 use Prim.Native.Nat.{ℕ, ◌/◌, ◌%◌}
 use borrow.Author.Tests.{eqb-true}
 use lib.Dec.{eqb, leb}
-use Rattle.term.specs.Heads.{Label, bound-basis, heads, labelled, reading, read, head_of}
+use Rattle.term.specs.Heads.{Label, bound_basis, heads, labelled, reading, read, head_of}
 use Rattle.term.specs.Terms.{max_bodies}
 use Rattle.term.proofs.Readings.{head_read}
 use Rattle.types.specs.Inside.{binds}
@@ -21,7 +21,7 @@ stray-word w l m n e = go (eqb (w / 256) 28) refl
   where
     go : (b : Bool) → eqb (w / 256) 28 ≡ b → is_stray l n ≡ cond b (leb n (w % 256)) (eqb (w / 256) 27 && leb max_bodies n)
     go true x =
-        let v : labelled (bound-basis (w % 256)) 0 ≡ labelled l m = rw (eqb-true (w / 256) 28 x) at e in
-        let z : l ≡ bound-basis (w % 256) = cc in
+        let v : labelled (bound_basis (w % 256)) 0 ≡ labelled l m = rw (eqb-true (w / 256) 28 x) at e in
+        let z : l ≡ bound_basis (w % 256) = cc in
         rw z
     go false x = rw ((head_read w l m e).2, x)

@@ -8,9 +8,9 @@ use native.Mathlib.Omega.{arith}
 use borrow.Author.Tests.{ltb-true, leb-true}
 use lib.Dec.{ltb}
 use lib.ListN.{length, get_elem?}
-use Rattle.words.proofs.Runs.{same-words_eq}
-use Rattle.term.specs.Heads.{Label, type-name, basis_name, variable, index-product, pair, scalar-zero, scalar-one, scalar-sum, scalar-product, conjugate, delta, dot, zero-ket, zero-bra}
-use Rattle.term.specs.Heads.{zero-operator, identity, basis-ket, basis-bra, adjoint, scale, add, tensor, mulk, mulb, outer, mulo, bound-basis, big-sum}
+use Rattle.words.proofs.Runs.{same_words_eq}
+use Rattle.term.specs.Heads.{Label, type_name, basis_name, variable, index_product, pair, scalar_zero, scalar_one, scalar_sum, scalar_product, conjugate, delta, dot, zero_ket, zero_bra}
+use Rattle.term.specs.Heads.{zero_operator, identity, basis_ket, basis_bra, adjoint, scale, add, tensor, mulk, mulb, outer, mulo, bound_basis, big_sum}
 use Rattle.term.specs.Trees.{Tree, Forest, node, none, ◌▹◌, words}
 use Rattle.term.specs.Terms.{max_bodies}
 use Rattle.types.specs.Sorts.{Sort, index, basis, scalar, ket, bra, operator, IsType, Context, bind, ◌⊠◌, Short}
@@ -133,7 +133,7 @@ listed_of (some a) F e = (a, refl, e)
 module _ {Γ : Context} (W : WellFormed Γ) {S : Sort} where
   same_of : {σ τ : Tree} (c : Conclusion) → Index Γ σ → Index Γ τ → same σ τ c ≡ gives S → (σ ≡ τ) × (c ≡ gives S)
   unfolding same
-  same_of c a b e = let r = cond_of _ c e in (same_index W a b (same-words_eq _ _ r.0), r.1)
+  same_of c a b e = let r = cond_of _ c e in (same_index W a b (same_words_eq _ _ r.0), r.1)
 
   -- a further child of a sum has the sum's sort
   agree_of : {u : Tree} (s t : Sort) → Proper Γ s → Γ ⊢ u ∶ t → agree s t ≡ gives S → (Γ ⊢ u ∶ s) × (s ≡ S)
@@ -172,7 +172,7 @@ module _ {Γ : Context} (W : WellFormed Γ) where
 
 module _ {Γ : Context} (W : WellFormed Γ) {S : Sort} where
   -- ---- each rule, from its conclusion
-  type-rule : {cs : Forest} {ss : List Sort} (a : ℕ) → Each Γ cs ss → conclude Γ (type-name a) ss ≡ gives S → Γ ⊢ node (type-name a) cs ∶ S
+  type-rule : {cs : Forest} {ss : List Sort} (a : ℕ) → Each Γ cs ss → conclude Γ (type_name a) ss ≡ gives S → Γ ⊢ node (type_name a) cs ∶ S
   unfolding conclude
   type-rule a x e =
       let r = nil_of _ x e in
@@ -318,14 +318,14 @@ module _ {Γ : Context} (W : WellFormed Γ) {S : Sort} where
       at-sort (opt_mulo p.is (operator-at r.0 refl q.is)) r.1
 
   -- a bound basis has the index of its sum
-  bound-rule : {cs : Forest} {ss : List Sort} (a : ℕ) → Each Γ cs ss → conclude Γ (bound-basis a) ss ≡ gives S → Γ ⊢ node (bound-basis a) cs ∶ S
+  bound-rule : {cs : Forest} {ss : List Sort} (a : ℕ) → Each Γ cs ss → conclude Γ (bound_basis a) ss ≡ gives S → Γ ⊢ node (bound_basis a) cs ∶ S
   unfolding conclude
   bound-rule a x e =
       let r = nil_of _ x e in
       let b = cond_of _ _ r.1 in
       rw r.0 (go (ltb-true _ _ b.0) (get_elem? Γ.bound a) refl b.1)
     where
-      go : a < max_bodies → (o : Option Tree) → get_elem? Γ.bound a ≡ o → bound_of Γ.types o ≡ gives S → Γ ⊢ node (bound-basis a) none ∶ S
+      go : a < max_bodies → (o : Option Tree) → get_elem? Γ.bound a ≡ o → bound_of Γ.types o ≡ gives S → Γ ⊢ node (bound_basis a) none ∶ S
       go b nothing h e = absurd_fails e
       go b (some σ) h e = let q = cond_of _ _ e in at-sort (bound_var b h (index_tested Γ σ q.0)) q.1
 
@@ -340,7 +340,7 @@ module _ {Γ : Context} (W : WellFormed Γ) {S : Sort} where
 
   -- A sum, from other children of the same sorts: its index is the same tree, so that both bodies stand in one context
   over_by : {s t b : Tree} (q r : Sort) → Γ ⊢ s ∶ q → Γ ⊢ t ∶ q → bind s Γ ⊢ b ∶ r → (to_index q λ σ. cond (ltb (length Γ.bound) max_bodies) (body_of r) fails) ≡ gives S
-      → Γ ⊢ node big-sum (t ▹ b ▹ none) ∶ S
+      → Γ ⊢ node big_sum (t ▹ b ▹ none) ∶ S
   over_by {s} {t} (index σ) r a a' b e =
       let p = cond_of _ (body_of r) e in
       let y = body_of_lem r p.1 in
@@ -352,7 +352,7 @@ module _ {Γ : Context} (W : WellFormed Γ) {S : Sort} where
   over_by (bra σ) r a a' b e = absurd_fails e
   over_by (operator σ τ) r a a' b e = absurd_fails e
 
-  over_rule : {cs ds : Forest} {ss : List Sort} → Row cs ss Γ (behind_first Γ cs) → Row ds ss Γ (behind_first Γ cs) → conclude Γ big-sum ss ≡ gives S → Γ ⊢ node big-sum ds ∶ S
+  over_rule : {cs ds : Forest} {ss : List Sort} → Row cs ss Γ (behind_first Γ cs) → Row ds ss Γ (behind_first Γ cs) → conclude Γ big_sum ss ≡ gives S → Γ ⊢ node big_sum ds ∶ S
   unfolding conclude behind_first
   over_rule o each_none e = absurd_fails e
   over_rule o (each_more a each_none) e = absurd_fails e
@@ -362,24 +362,24 @@ module _ {Γ : Context} (W : WellFormed Γ) {S : Sort} where
   -- ---- all of them, from other children of the same sorts
   pub derive : {cs ds : Forest} {ss : List Sort} (l : Label) → Row cs ss Γ (later Γ l cs) → Row ds ss Γ (later Γ l cs) → conclude Γ l ss ≡ gives S → Γ ⊢ node l ds ∶ S
   unfolding conclude later
-  derive (type-name a) o x e = type-rule a x e
+  derive (type_name a) o x e = type-rule a x e
   derive (basis_name a) o x e = listed-rule (basis_name a) (get_elem? Γ.bases a) basis (λ σ. basis_var) x e
   derive (variable a) o x e = listed-rule (variable a) (get_elem? Γ.variables a) (λ R. R) (λ R. term_var) x e
-  derive index-product o x e = product-rule index-product index index_of (λ t u σ τ. base_prod) (both_of _ x e)
+  derive index_product o x e = product-rule index_product index index_of (λ t u σ τ. base_prod) (both_of _ x e)
   derive pair o x e = product-rule pair basis basis_of (λ t u σ τ. pair_base) (both_of _ x e)
-  derive scalar-zero o x e = leaf_rule scalar-zero sca_0 x e
-  derive scalar-one o x e = leaf_rule scalar-one sca_1 x e
-  derive scalar-sum o x e = scalars_rule scalar-sum (λ t f. sca_add) x e
-  derive scalar-product o x e = scalars_rule scalar-product (λ t f. sca_mul) x e
+  derive scalar_zero o x e = leaf_rule scalar_zero sca_0 x e
+  derive scalar_one o x e = leaf_rule scalar_one sca_1 x e
+  derive scalar_sum o x e = scalars_rule scalar_sum (λ t f. sca_add) x e
+  derive scalar_product o x e = scalars_rule scalar_product (λ t f. sca_mul) x e
   derive conjugate o x e = conjugate_rule (only_of _ x e)
   derive delta o x e = same-rule delta basis basis basis_of basis_of (λ σ h. h) (λ σ h. h) (λ t u σ. sca_delta) (both_of _ x e)
   derive dot o x e = same-rule dot bra ket bra_of ket_of (λ σ h. h) (λ σ h. h) (λ t u σ. sca_dot) (both_of _ x e)
-  derive zero-ket o x e = index_rule zero-ket index ket index_of (λ s σ. ket_0) (only_of _ x e)
-  derive zero-bra o x e = index_rule zero-bra index bra index_of (λ s σ. bra_0) (only_of _ x e)
-  derive zero-operator o x e = operator-rule zero-operator index index index_of index_of (λ t u σ τ. opt_0) (both_of _ x e)
+  derive zero_ket o x e = index_rule zero_ket index ket index_of (λ s σ. ket_0) (only_of _ x e)
+  derive zero_bra o x e = index_rule zero_bra index bra index_of (λ s σ. bra_0) (only_of _ x e)
+  derive zero_operator o x e = operator-rule zero_operator index index index_of index_of (λ t u σ τ. opt_0) (both_of _ x e)
   derive identity o x e = index_rule identity index (λ σ. operator σ σ) index_of (λ s σ. opt_1) (only_of _ x e)
-  derive basis-ket o x e = index_rule basis-ket basis ket basis_of (λ s σ. ket_base) (only_of _ x e)
-  derive basis-bra o x e = index_rule basis-bra basis bra basis_of (λ s σ. bra_base) (only_of _ x e)
+  derive basis_ket o x e = index_rule basis_ket basis ket basis_of (λ s σ. ket_base) (only_of _ x e)
+  derive basis_bra o x e = index_rule basis_bra basis bra basis_of (λ s σ. bra_base) (only_of _ x e)
   derive adjoint o x e = adjoint-rule (only_of _ x e)
   derive scale o x e = scale-rule (both_of _ x e)
   derive add o x e = sum-rule x e
@@ -388,8 +388,8 @@ module _ {Γ : Context} (W : WellFormed Γ) {S : Sort} where
   derive mulb o x e = mulb_rule (both_of _ x e)
   derive outer o x e = operator-rule outer ket bra ket_of bra_of (λ t u σ τ. opt_outer) (both_of _ x e)
   derive mulo o x e = mulo_rule (both_of _ x e)
-  derive (bound-basis a) o x e = bound-rule a x e
-  derive big-sum o x e = over_rule o x e
+  derive (bound_basis a) o x e = bound-rule a x e
+  derive big_sum o x e = over_rule o x e
 
 -- ---- the function
 data Answered (Γ : Context) (at : ℕ) (t : Tree) : Inferred → Type 0 where

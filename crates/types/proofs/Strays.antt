@@ -10,7 +10,7 @@ use borrow.Author.Tests.{lt-ltb, le-ltb, le-leb, leb-true, eqb-true}
 use lib.Dec.{eqb, leb}
 use lib.ListN.{length, get_or, get_elem?}
 use Rattle.words.specs.Listed.{or_else}
-use Rattle.term.specs.Heads.{Label, bound-basis, big-sum, unknown, heads, head_of}
+use Rattle.term.specs.Heads.{Label, bound_basis, big_sum, unknown, heads, head_of}
 use Rattle.term.specs.Trees.{Tree, Forest, node, none, ◌▹◌, words, Subtree, found, subtree, subtree*}
 use Rattle.term.specs.Terms.{max_bodies}
 use Rattle.term.proofs.Readings.{Written, label_line}
@@ -37,10 +37,10 @@ unfolding is_stray heads
 stray_tested l f n e = go (head_of l 0).0 (head_of l 0).1 (label_line l 0) (eqb (head_of l 0).0 28) refl e
   where
     go : (k a : ℕ) → Written l a (get_or heads k unknown) → (b : Bool) → eqb k 28 ≡ b → cond b (leb n a) (eqb k 27 && leb max_bodies n) ≡ true → Stray (node l f) n
-    go k a w true x e = let z : bound-basis a ≡ l = rw (eqb-true k 28 x) at w in rw (← z) (unbound (leb-true _ _ e))
+    go k a w true x e = let z : bound_basis a ≡ l = rw (eqb-true k 28 x) at w in rw (← z) (unbound (leb-true _ _ e))
     go k a w false x e =
         let p = (and-eq-true_iff (eqb k 27) _).0 e in
-        let z : big-sum ≡ l = rw (eqb-true k 27 p.0) at w in rw (← z) (ninth (leb-true _ _ p.1))
+        let z : big_sum ≡ l = rw (eqb-true k 27 p.0) at w in rw (← z) (ninth (leb-true _ _ p.1))
 
 -- the bodies around the later children
 bodies : (Γ : Context) (l : Label) (t : Tree) (f : Forest) → cond (binds l) (suc (length Γ.bound)) (length Γ.bound) ≡ length (later Γ l (t ▹ f)).bound

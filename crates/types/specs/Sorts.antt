@@ -1,7 +1,7 @@
 -- Sorts, and the context that declarations make.
 use Rattle.std.specs.Prelude.{◌≡◌, Bool, true, false, List, ◌∷◌, ℕ, ◌≤◌, length, get_or}
 use Rattle.term.specs.declared.terms.Names.{Names}
-use Rattle.term.specs.Heads.{index-product}
+use Rattle.term.specs.Heads.{index_product}
 use Rattle.term.specs.Trees.{Tree, node, none, ◌▹◌, words}
 use Rattle.term.specs.Terms.{max_index}
 
@@ -48,7 +48,7 @@ counts_of Γ = record { types = Γ.types; bases = length Γ.bases; variables = l
 -- the product of two indices
 infixr 30 ◌⊠◌
 abbrev pub ◌⊠◌ : Tree → Tree → Tree
-σ ⊠ τ = node index-product (σ ▹ τ ▹ none)
+σ ⊠ τ = node index_product (σ ▹ τ ▹ none)
 
 -- 01: "A type index has at most 63 words"
 abbrev pub Short : Tree → Type 0

@@ -2,7 +2,7 @@
 use Rattle.std.specs.Prelude.{◌≡◌, Bool, cond, ◌&&◌, ℕ, suc, ◌+◌, ◌≤◌, eqb, leb, length}
 use Rattle.std.proofs.Math.Option.{Option, some, none as nothing}
 use Rattle.words.specs.Listed.{or_else}
-use Rattle.term.specs.Heads.{Label, bound-basis, big-sum, head_of}
+use Rattle.term.specs.Heads.{Label, bound_basis, big_sum, head_of}
 use Rattle.term.specs.Trees.{Tree, Forest, node, none, ◌▹◌, words, Subtree, found, subtree}
 use Rattle.term.specs.Terms.{max_bodies}
 use Rattle.types.specs.Sorts.{Context}
@@ -10,8 +10,8 @@ use Rattle.types.specs.Inside.{binds, inside}
 
 -- a part with so many bodies around it
 pub data Stray : Tree → ℕ → Type 0 where
-  unbound : {a n : ℕ} {f : Forest} → n ≤ a → Stray (node (bound-basis a) f) n
-  ninth : {n : ℕ} {f : Forest} → max_bodies ≤ n → Stray (node big-sum f) n
+  unbound : {a n : ℕ} {f : Forest} → n ≤ a → Stray (node (bound_basis a) f) n
+  ninth : {n : ℕ} {f : Forest} → max_bodies ≤ n → Stray (node big_sum f) n
 
 -- the lowest offset of one; `sub` tells the part at each offset, and `Γs` its context
 pub record Lowest (Γs : ℕ → Context) (sub : ℕ → Subtree) (k : ℕ) : Type 0 where

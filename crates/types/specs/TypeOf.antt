@@ -4,8 +4,8 @@ use Rattle.std.specs.Prelude.{Bool, true, cond, ◌&&◌, List, [], ◌∷◌, �
 use Rattle.std.proofs.Math.Option.{Option, some, none as nothing}
 use Rattle.std.proofs.Math.ListN.{get_elem?}
 use Rattle.words.specs.Words.{same_words}
-use Rattle.term.specs.Heads.{Label, type-name, basis_name, variable, index-product, pair, scalar-zero, scalar-one, scalar-sum, scalar-product, conjugate, delta, dot, zero-ket, zero-bra}
-use Rattle.term.specs.Heads.{zero-operator, identity, basis-ket, basis-bra, adjoint, scale, add, tensor, mulk, mulb, outer, mulo, bound-basis, big-sum, head_of}
+use Rattle.term.specs.Heads.{Label, type_name, basis_name, variable, index_product, pair, scalar_zero, scalar_one, scalar_sum, scalar_product, conjugate, delta, dot, zero_ket, zero_bra}
+use Rattle.term.specs.Heads.{zero_operator, identity, basis_ket, basis_bra, adjoint, scale, add, tensor, mulk, mulb, outer, mulo, bound_basis, big_sum, head_of}
 use Rattle.term.specs.Trees.{Tree, Forest, node, none, ◌▹◌, count, words}
 use Rattle.term.specs.Terms.{max_index, max_bodies}
 use Rattle.types.specs.Sorts.{Sort, index, basis, scalar, ket, bra, operator, Context, ◌⊠◌}
@@ -184,24 +184,24 @@ body_of (operator σ τ) = gives (operator σ τ)
 -- ---- the rules, by label
 unfoldable pub conclude : Context → Label → List Sort → Conclusion
 unfolding listed same short adjoint_of array_of tensor_of scalars_of sum_of bound_of body_of
-conclude Γ (type-name a) ss = nil ss (cond (ltb a Γ.types) (gives (index (node (type-name a) none))) fails)
+conclude Γ (type_name a) ss = nil ss (cond (ltb a Γ.types) (gives (index (node (type_name a) none))) fails)
 conclude Γ (basis_name a) ss = nil ss (listed (get_elem? Γ.bases a) basis)
 conclude Γ (variable a) ss = nil ss (listed (get_elem? Γ.variables a) λ S. S)
-conclude Γ index-product ss = two ss λ s t. to_index s λ σ. to_index t λ τ. short (σ ⊠ τ) (gives (index (σ ⊠ τ)))
+conclude Γ index_product ss = two ss λ s t. to_index s λ σ. to_index t λ τ. short (σ ⊠ τ) (gives (index (σ ⊠ τ)))
 conclude Γ pair ss = two ss λ s t. to_basis s λ σ. to_basis t λ τ. short (σ ⊠ τ) (gives (basis (σ ⊠ τ)))
-conclude Γ scalar-zero ss = nil ss (gives scalar)
-conclude Γ scalar-one ss = nil ss (gives scalar)
-conclude Γ scalar-sum ss = scalars_of ss
-conclude Γ scalar-product ss = scalars_of ss
+conclude Γ scalar_zero ss = nil ss (gives scalar)
+conclude Γ scalar_one ss = nil ss (gives scalar)
+conclude Γ scalar_sum ss = scalars_of ss
+conclude Γ scalar_product ss = scalars_of ss
 conclude Γ conjugate ss = one ss λ s. to_scalar s (gives scalar)
 conclude Γ delta ss = two ss λ s t. to_basis s λ σ. to_basis t λ τ. same σ τ (gives scalar)
 conclude Γ dot ss = two ss λ s t. to_bra s λ σ. to_ket t λ τ. same σ τ (gives scalar)
-conclude Γ zero-ket ss = one ss λ s. to_index s λ σ. gives (ket σ)
-conclude Γ zero-bra ss = one ss λ s. to_index s λ σ. gives (bra σ)
-conclude Γ zero-operator ss = two ss λ s t. to_index s λ σ. to_index t λ τ. gives (operator σ τ)
+conclude Γ zero_ket ss = one ss λ s. to_index s λ σ. gives (ket σ)
+conclude Γ zero_bra ss = one ss λ s. to_index s λ σ. gives (bra σ)
+conclude Γ zero_operator ss = two ss λ s t. to_index s λ σ. to_index t λ τ. gives (operator σ τ)
 conclude Γ identity ss = one ss λ s. to_index s λ σ. gives (operator σ σ)
-conclude Γ basis-ket ss = one ss λ s. to_basis s λ σ. gives (ket σ)
-conclude Γ basis-bra ss = one ss λ s. to_basis s λ σ. gives (bra σ)
+conclude Γ basis_ket ss = one ss λ s. to_basis s λ σ. gives (ket σ)
+conclude Γ basis_bra ss = one ss λ s. to_basis s λ σ. gives (bra σ)
 conclude Γ adjoint ss = one ss adjoint_of
 conclude Γ scale ss = two ss λ s t. to_scalar s (array_of t)
 conclude Γ add ss = sum_of ss
@@ -210,8 +210,8 @@ conclude Γ mulk ss = two ss λ s t. to_operator s λ σ τ. to_ket t λ υ. sam
 conclude Γ mulb ss = two ss λ s t. to_bra s λ υ. to_operator t λ σ τ. same υ σ (gives (bra τ))
 conclude Γ outer ss = two ss λ s t. to_ket s λ σ. to_bra t λ τ. gives (operator σ τ)
 conclude Γ mulo ss = two ss λ s t. to_operator s λ σ τ. to_operator t λ υ ρ. same τ υ (gives (operator σ ρ))
-conclude Γ (bound-basis a) ss = nil ss (cond (ltb a max_bodies) (bound_of Γ.types (get_elem? Γ.bound a)) fails)
-conclude Γ big-sum ss = two ss λ s t. to_index s λ σ. cond (ltb (length Γ.bound) max_bodies) (body_of t) fails
+conclude Γ (bound_basis a) ss = nil ss (cond (ltb a max_bodies) (bound_of Γ.types (get_elem? Γ.bound a)) fails)
+conclude Γ big_sum ss = two ss λ s t. to_index s λ σ. cond (ltb (length Γ.bound) max_bodies) (body_of t) fails
 
 -- ---- the type of a part at an offset, or the offset of the first untyped part: that ends first, and among equal ends begins last (01, code 10).
 -- Children come before their parent, from left to right: so the first that fails is that one

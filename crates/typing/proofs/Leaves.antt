@@ -10,7 +10,7 @@ use borrow.Author.Tests.{ltb-true, ltb-false}
 use lib.Dec.{ltb, eqb-suc-zero}
 use lib.ListN.{get_or, get_elem?}
 use Rattle.term.specs.declared.heads.Class.TheVariants.{Index, Basis, Term}
-use Rattle.term.specs.Heads.{Label, type-name, basis_name, variable, bound-basis, Head, unknown, named, fixed, counted, heads, unread, labelled, reading, read, word}
+use Rattle.term.specs.Heads.{Label, type_name, basis_name, variable, bound_basis, Head, unknown, named, fixed, counted, heads, unread, labelled, reading, read, word}
 use Rattle.term.specs.Terms.{max_bodies}
 use Rattle.term.specs.Trees.{Tree, words, count}
 use Rattle.term.proofs.Readings.{Every, every_at, ◌⨾◌}
@@ -64,7 +64,7 @@ module _ (ds : List ℕ) (bs : List Tree) where
   low : (k a : ℕ) → a < 256 → (k * 256 + a) % 256 ≡ a
   low k a h = omega arith
 
-  type_row : RowLaw 1 (named type-name Index)
+  type_row : RowLaw 1 (named type_name Index)
   unfolding conclude leaf_of context_in words word count
   type_row a h = rw (high 1 a h, low 1 a h) (on_cond (ltb a (get_or ds 0 0)) _)
 
@@ -76,7 +76,7 @@ module _ (ds : List ℕ) (bs : List Tree) where
   unfolding conclude leaf_of context_in
   variable_row a h = rw (high 26 a h, low 26 a h) (on_listed (get_or ds 2 0) (variable_in ds) (λ S. S) a)
 
-  bound-row : RowLaw 28 (named bound-basis Basis)
+  bound-row : RowLaw 28 (named bound_basis Basis)
   unfolding conclude leaf_of context_in
   bound-row a h = rw (high 28 a h, low 28 a h) (on_bound (get_or ds 0 0) a bs)
 

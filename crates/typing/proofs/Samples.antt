@@ -3,7 +3,7 @@ use mathlib.Core.Path.{◌≡◌, refl}
 use mathlib.Core.List.{List, [], ◌∷◌}
 use mathlib.Core.Option.{Option, some, none as nothing}
 use Prim.Native.Nat.{ℕ}
-use Rattle.term.specs.Heads.{type-name, read, word}
+use Rattle.term.specs.Heads.{type_name, read, word}
 use Rattle.term.specs.Parts.{parse, tree_in}
 use Rattle.term.specs.Trees.{Tree, node, none, words}
 use Rattle.types.specs.Sorts.{scalar, ket, bra, operator, Context, ◌⊠◌}
@@ -12,7 +12,7 @@ use Rattle.types.specs.TypeOf.{conclude, Inferred, typed, untyped, type_of}
 
 -- "Declared: basis 0 and 1 of index 1:0; variables 0 ket, 1 operator, 2 scalar, 3 bra, all over 1:0"
 abbrev σ : Tree
-σ = node (type-name 0) none
+σ = node (type_name 0) none
 
 abbrev Γ : Context
 Γ = record { types = 1; bases = σ ∷ σ ∷ []; variables = ket σ ∷ operator σ σ ∷ scalar ∷ bra σ ∷ []; marks = []; bound = [] }

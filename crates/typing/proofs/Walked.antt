@@ -10,7 +10,7 @@ use lib.Dec.{eqb}
 use lib.ListN.{length, take, drop, get_or, length-append, length-drop}
 use Rattle.words.specs.Words.{laid}
 use Rattle.words.proofs.Runs.{to_end}
-use Rattle.term.specs.Heads.{Label, big-sum, heads, unread, labelled, reading, read, arity_of}
+use Rattle.term.specs.Heads.{Label, big_sum, heads, unread, labelled, reading, read, arity_of}
 use Rattle.term.specs.declared.heads.Arity.TheVariants.{Children}
 use Rattle.term.specs.Trees.{Tree, Forest, none, ◌▹◌, count, words, depth}
 use Rattle.term.specs.Terms.{max_bodies}
@@ -348,7 +348,7 @@ all_by Γ w l roomy (begun al fr sm) n z h r c = absurd (z (sym n))
 all_by Γ w l roomy (going {s} {ss} k) e z h r c = rw (children_law w l s ss (rw (← e) at r) Γ roomy, ← h, e) (rw (k.first, k.latest, k.alike) at c)
 
 -- a sum over a basis has no sort in as many bodies as there may be
-over_full : (Γ : Context) → max_bodies ≤ length Γ.bound → (ss : List Sort) → conclude Γ big-sum ss ≡ fails
+over_full : (Γ : Context) → max_bodies ≤ length Γ.bound → (ss : List Sort) → conclude Γ big_sum ss ≡ fails
 unfolding conclude
 over_full Γ m [] = refl
 over_full Γ m (s ∷ []) = refl
@@ -364,8 +364,8 @@ no_room : (Γ : Context) (w : ℕ) (l : Label) (n : ℕ) (ss : List Sort) → re
 unfolding read reading heads
 no_room Γ w l n ss r h m = go (eqb (w % 256) 0) (rw h at r)
   where
-    go : (b : Bool) → cond b (labelled big-sum 2) unread ≡ labelled l n → conclude Γ l ss ≡ fails
-    go true e = let z : big-sum ≡ l = cc in rw (← z) (over_full Γ m ss)
+    go : (b : Bool) → cond b (labelled big_sum 2) unread ≡ labelled l n → conclude Γ l ss ≡ fails
+    go true e = let z : big_sum ≡ l = cc in rw (← z) (over_full Γ m ss)
     go false e = absurd (let z : ◌≡◌ {A = ℕ} 0 1 = cc in omega arith)
 
 -- the label that a word with children has

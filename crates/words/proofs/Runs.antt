@@ -153,15 +153,15 @@ unfolding same_words
 same-words [] = refl
 same-words (w ∷ ws) = rw (eq-eqb w w refl) (same-words ws)
 
-pub same-words_eq : (vs ws : List ℕ) → same_words vs ws ≡ true → vs ≡ ws
+pub same_words_eq : (vs ws : List ℕ) → same_words vs ws ≡ true → vs ≡ ws
 unfolding same_words
-same-words_eq [] [] e = refl
-same-words_eq [] (w ∷ ws) e = cc
-same-words_eq (v ∷ vs) [] e = cc
-same-words_eq (v ∷ vs) (w ∷ ws) e =
+same_words_eq [] [] e = refl
+same_words_eq [] (w ∷ ws) e = cc
+same_words_eq (v ∷ vs) [] e = cc
+same_words_eq (v ∷ vs) (w ∷ ws) e =
     let r = (and-eq-true_iff (eqb v w) (same_words vs ws)).0 e in
     let h = eqb-true v w r.0 in
-    let t = same-words_eq vs ws r.1 in cc
+    let t = same_words_eq vs ws r.1 in cc
 
 -- one word more of each
 swap : (p q r : Bool) → (p && (q && r)) ≡ (q && (p && r))

@@ -4,7 +4,7 @@ use Rattle.std.specs.Prelude.{cond, List, [], ◌∷◌, ◌++◌, ℕ, ◌+◌,
 use Rattle.std.proofs.Math.Option.{Option, some, none}
 use Rattle.term.specs.Heads.{Label, word}
 use Rattle.rules.specs.Patterns.{Pattern, #◌, first, second, ◌⟨⟩, ◌⟨◌⟩, ◌⟨◌∣◌⟩}
-use Rattle.rules.specs.Table.{Condition, any, a-ket, a-bra, an-operator, unused, marked, Which, child, child_i, Summand, plain, scaled, Rule, ◌⇒◌▷◌, spreading, removing, absorbing, merging}
+use Rattle.rules.specs.Table.{Condition, any, a_ket, a_bra, an_operator, unused, marked, Which, child, child_i, Summand, plain, scaled, Rule, ◌⇒◌▷◌, spreading, removing, absorbing, merging}
 use Rattle.rules.specs.Table.{collecting, swapping, distributing, Line, ◌∶◌, table, rule_of}
 use Rattle.rulebook.specs.declared.Row.{Row}
 
@@ -61,9 +61,9 @@ head_number l = word l 0 / 256
 
 abbrev pub condition_number : Condition → ℕ
 condition_number any = 0
-condition_number a-ket = 1
-condition_number a-bra = 2
-condition_number an-operator = 3
+condition_number a_ket = 1
+condition_number a_bra = 2
+condition_number an_operator = 3
 condition_number unused = 4
 condition_number marked = 5
 
