@@ -1,6 +1,6 @@
 /* Fejogbu: the replay of derivations in Dirac notation, for C and whatever calls C.
  *
- * Link target/staticlib/liblibrary.a, which `rt staticlib library` proves and writes. Every function is proved to give what its contract in
+ * Link target/staticlib/liblibrary.a, which `./build.sh library` proves and writes. Every function is proved to give what its contract in
  * crates/library/src/lib.rt says, for all contents of what it is lent: no function relies on its caller having looked first.
  *
  * A slice is two arguments: a pointer to its first item and the number of its items. What nothing can prove of a caller in C, and what is therefore asked:

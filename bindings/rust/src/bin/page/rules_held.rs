@@ -100,7 +100,7 @@ fn the_names_are_those_of_the_script() {
 /// The number of a head, by the name that the proved table has for it.
 fn head_number(name: &str) -> &'static str {
     let mut lines = HEADS.lines().filter_map(|line| {
-        let (label, word) = line.strip_prefix("headOf ")?.split_once(" n = (")?;
+        let (label, word) = line.strip_prefix("head_of ")?.split_once(" n = (")?;
         let label = label.trim_start_matches('(').split(' ').next()?;
         (label == name).then(|| word.split(',').next())?
     });
@@ -127,7 +127,7 @@ fn pattern(text: &'static str) -> Vec<Item> {
             "#" => Item::Hole(number()),
             "first" => Item::Index(number(), 0),
             "second" => Item::Index(number(), 1),
-            "bound-basis" => Item::Head(format!("28:{}", number())),
+            "bound_basis" => Item::Head(format!("28:{}", number())),
             head => Item::Head(head_number(head).to_string()),
         });
     }
