@@ -19,6 +19,7 @@ import sys
 W = r"[^\s(){}.;,@\"«»\[\]\\`]+"
 TOKEN = re.compile(r"--[^\n]*|\"(?:[^\"\\]|\\.)*\"|«[^»]*»|" + W)
 IN_TEXT = re.compile(W)
+DECLARED = re.compile(r"(?m)^ *(?:(?:abbrev|unfoldable|pub) )*(" + W + r")(?: (?=: )|(?: \([^)]*\)| \{[^}]*\})* : )")
 BINDERS = re.compile(r"\([^)]*\)|\{[^}]*\}")
 NO_HEAD = re.compile(r"[=,;→(){}λ]|\b(let|use|in)\b")
 KEYWORDS = {"pub", "abbrev", "unfoldable", "ruleset", "data", "record", "where"}
@@ -73,8 +74,13 @@ def respelled(name, words):
     return out
 
 
-def declared_in(text):
-    """The names that stand in front of a colon where a line begins: of definitions, fields and constructors, several on a line at times."""
+def alone(text):
+    """The names that stand alone, or before binders, in front of a colon where a line begins."""
+    return set(DECLARED.findall(re.sub(r"--[^\n]*", "", text)))
+
+
+def together(text):
+    """The same, with those of which several stand on a line, as constructors do."""
     found = set()
     for line in re.sub(r"--[^\n]*", "", text).split("\n"):
         head, colon, _ = line.partition(" : ")
@@ -84,7 +90,7 @@ def declared_in(text):
     return found
 
 
-def declared_names():
+def declared_names(declared_in):
     """The names that specs/ and the files of lemmas declare, and those of specs/ apart."""
     names, specs = set(), set()
     for path in antt_files():
@@ -154,9 +160,10 @@ def tokens_of(path, text):
     return IN_TEXT.findall(re.sub(r"\.\s*" + W, " ", text))
 
 
-def main():
+def turn(declared_in):
+    """Turns the names that are found so, and gives the pairs."""
     crates = sorted(it for it in os.listdir("crates") if os.path.isdir(f"crates/{it}/src"))
-    names, specs = declared_names()
+    names, specs = declared_names(declared_in)
     words = LIBRARY | {snake(it.replace("-", "_")) for it in specs}
     table = {it: respelled(it, set() if it in specs else words) for it in names}
     table.update({old: new for old, new in FIXED.items() if old in names})
@@ -184,8 +191,6 @@ def main():
         print("falls together:", *it)
     if clash:
         sys.exit(1)
-    if "--table" in sys.argv:
-        write(sys.argv[sys.argv.index("--table") + 1], "".join(f"{old}\t{new}\n" for old, new in sorted(table.items())))
     for path, text in texts.items():
         new = (turn_rt if path.endswith(".rt") else turn_antt)(text, table, crates)
         if new != text:
@@ -195,6 +200,14 @@ def main():
         new = in_backticks(text, table)
         if new != text and "landings" not in path and not path.startswith("docs/PORT"):
             write(path, new)
+    return table
+
+
+def main():
+    # The second pass is what the first one did not see; which dashes stay hangs on the names that were seen, so the two are not one.
+    table = {**turn(alone), **turn(together)}
+    if "--table" in sys.argv:
+        write(sys.argv[sys.argv.index("--table") + 1], "".join(f"{old}\t{new}\n" for old, new in sorted(table.items())))
     print(f"names: {len(table)}")
 
 
