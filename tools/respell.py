@@ -49,7 +49,8 @@ def antt_files():
 
 
 def is_lemma_file(path):
-    return os.path.basename(path) not in FUNCTION_FILES
+    """Whether a file is of definitions or lemmas, and no function's proof: `Answers` is a name of specs/ too."""
+    return "/specs/" in path or os.path.basename(path) not in FUNCTION_FILES
 
 
 def snake(word):

@@ -31,7 +31,7 @@ sized_same ds left right steps d s = rw (eq-eqb _ _ d, eq-eqb _ _ s) (both (eqb 
     both true false = refl
     both false b = refl
 
-as_refused : {r : Read} {c n : ℕ} → r ≡ R.readRefusal c n → file_refusal r.code r.at ≡ file_refusal c n
+as_refused : {r : Read} {c n : ℕ} → r ≡ R.read_refusal c n → file_refusal r.code r.at ≡ file_refusal c n
 as_refused e = ap (λ x. file_refusal x.code x.at) e
 
 read-code : (f : File) → (R.answer_of (read f)).code ≡ 0
@@ -76,19 +76,19 @@ module _ (bytes left right : List ℕ) where
     is-sized e = sized_same ds left right steps d s ∙ e
 
     -- what stands in the slices behind each answer
-    un_sized : sized left right ≡ false → (r ≡ R.readRefusal 1 0) × (left' ≡ left) × (right' ≡ right)
-    unfolding R.readAnswer R.after
+    un_sized : sized left right ≡ false → (r ≡ R.read_refusal 1 0) × (left' ≡ left) × (right' ≡ right)
+    unfolding R.read_answer R.after
     un_sized e = let z = is-sized e in (h.answer ∙ rw z, h.lefts ∙ rw z, h.rights ∙ rw z)
 
-    un_read : {c n : ℕ} → sized left right ≡ true → read_of bytes ≡ fault c n → (r ≡ R.readRefusal c n) × (left' ≡ replicate max_words 0) × (right' ≡ replicate max_words 0)
-    unfolding R.readAnswer R.after R.answer_of R.slice
+    un_read : {c n : ℕ} → sized left right ≡ true → read_of bytes ≡ fault c n → (r ≡ R.read_refusal c n) × (left' ≡ replicate max_words 0) × (right' ≡ replicate max_words 0)
+    unfolding R.read_answer R.after R.answer_of R.slice
     un_read e k =
         let z = is-sized e in
         let l = both-sized e in (h.answer ∙ rw (z, k), h.lefts ∙ rw (z, k, l.0), h.rights ∙ rw (z, k, l.1))
 
     is_read : (f : File) → sized left right ≡ true → read_of bytes ≡ read f
         → (r ≡ R.answer_of (read f)) × (ds' ≡ declarations_of f) × (left' ≡ padded f.left) × (right' ≡ padded f.right) × (steps' ≡ steps_of f)
-    unfolding R.readAnswer R.after R.slice
+    unfolding R.read_answer R.after R.slice
     is_read f e k =
         let z = is-sized e in
         (h.answer ∙ rw (z, k), h.declarations ∙ rw (z, k), h.lefts ∙ rw (z, k), h.rights ∙ rw (z, k), h.moves ∙ rw (z, k))

@@ -13,7 +13,7 @@ use Rattle.lent.specs.Lent.{Derivation, moves_in}
 use Rattle.format.specs.Files.{File, context_of, Written}
 use Rattle.format.specs.Kept.{declarations_of, steps_of}
 use Rattle.step.specs.declared.run.Answer as A
-use Rattle.step.specs.Answers.{held, answerTo, wordsLeft}
+use Rattle.step.specs.Answers.{held, answer_to, words_left}
 use Rattle.step.specs.Runs.{run_answer, left_after, right_after}
 use Rattle.step.specs.Statements.{Lists}
 use Rattle.step.specs.Alike.{Alike}
@@ -34,8 +34,8 @@ pub record Demand1 : Type 0 where
   pub replay_zeros : (bytes left right : List ℕ) → (replay_answer bytes left right).code ≢ 1
       → ZerosBehind (replay_answer bytes left right).left (left_replayed bytes left right) × ZerosBehind (replay_answer bytes left right).right (right_replayed bytes left right)
   pub replay_untouched : (bytes left right : List ℕ) → (replay_answer bytes left right).code ≡ 1 → (left_replayed bytes left right ≡ left) × (right_replayed bytes left right ≡ right)
-  pub step_zeros : (ds ws : List ℕ) (n : ℕ) (s : Step) → (answerTo ds ws n s).code ≢ 1 → ZerosBehind (answerTo ds ws n s).length (wordsLeft ds ws n s)
-  pub step_untouched : (ds ws : List ℕ) (n : ℕ) (s : Step) → (answerTo ds ws n s).code ≡ 1 → wordsLeft ds ws n s ≡ ws
+  pub step_zeros : (ds ws : List ℕ) (n : ℕ) (s : Step) → (answer_to ds ws n s).code ≢ 1 → ZerosBehind (answer_to ds ws n s).length (words_left ds ws n s)
+  pub step_untouched : (ds ws : List ℕ) (n : ℕ) (s : Step) → (answer_to ds ws n s).code ≡ 1 → words_left ds ws n s ≡ ws
   pub run_zeros : (d : Derivation) → (run_answer d).code ≢ 1 → ZerosBehind (run_answer d).left (left_after d) × ZerosBehind (run_answer d).right (right_after d)
   pub run_untouched : (d : Derivation) → (run_answer d).code ≡ 1 → (left_after d ≡ d.left) × (right_after d ≡ d.right)
 

@@ -21,7 +21,7 @@ use Rattle.declarations.specs.Declarations.{context_in, good_declarations}
 use Rattle.declarations.proofs.Entries.{well_formed}
 use Rattle.typing.specs.declared.terms.TermType.{TermType}
 use Rattle.typing.specs.declared.terms.Typing.{Typing}
-use Rattle.typing.specs.Answers.{refuse, typing, answer_of, typingOf, sizesOf, HeldTerm, TypedTerm}
+use Rattle.typing.specs.Answers.{refuse, typing, answer_of, typing_of, sizes_of, HeldTerm, TypedTerm}
 use Rattle.typing.specs.Answers as Said
 use Rattle.typing.proofs.Theorems.{complete_entry, decided}
 use Rattle.lent.specs.declared.faults.Fault.{Fault}
@@ -80,7 +80,7 @@ not-both e f = let z : ◌≡◌ {A = ℕ} 0 1 = cc in omega arith
 
 type-same : (a : TermType) → same_type a a ≡ true
 unfolding same_type same_sizes
-type-same a = let x = sizesOf a.kind in rw (eq-eqb x.number x.number refl, eq-eqb x.rows x.rows refl, eq-eqb x.columns x.columns refl, same-words a.rows)
+type-same a = let x = sizes_of a.kind in rw (eq-eqb x.number x.number refl, eq-eqb x.rows x.rows refl, eq-eqb x.columns x.columns refl, same-words a.rows)
     (same-words a.columns)
 
 -- No code is 0; where both slices hold terms under good declarations, and the steps are in order, it is one of types
@@ -163,7 +163,7 @@ module _ (d : Derivation) where
       rw (ne_eqb _ 1 a.0, ne_eqb _ 7 a.1, ne_eqb _ 8 a.2) (found (no_term (h.size, k) b (λ t u z. x u z.1)) (omega arith))
   view_by same agree (late h l) (late k r) s e = rw (early_late l r) (steps_by same agree h k l r _ s e refl)
 
-  agree_of : Agree (same_type (typingOf d.ds d.left d.n).of (typingOf d.ds d.right d.m).of)
+  agree_of : Agree (same_type (typing_of d.ds d.left d.n).of (typing_of d.ds d.right d.m).of)
   agree_of t u S R h k =
       let W = well_formed d.ds h.good in
       let a = complete_entry d.ds d.left d.n t S h in

@@ -22,13 +22,13 @@ use Rattle.types.proofs.Proper.{index_short, same_index}
 use Rattle.typing.specs.declared.terms.Sizes.{Sizes}
 use Rattle.typing.specs.declared.terms.TermType.{TermType}
 use Rattle.typing.specs.declared.terms.Typing.{Typing}
-use Rattle.typing.specs.Answers.{sizesOf, pad, typeRecord, refuse, typing, answer_of, typingOf, TypedTerm}
+use Rattle.typing.specs.Answers.{sizes_of, pad, type_record, refuse, typing, answer_of, typing_of, TypedTerm}
 use Rattle.lent.specs.Lent.{Derivation, max_steps, step_at, sided, steps_fault}
 use Rattle.lent.specs.Faults.{same_sizes, same_type, fault, types_fault, early_code, fault_of, fault_in}
 use Rattle.lent.specs.Refusals.{InOrder}
 
 -- ---- the comparison of two types
-module _ (a b : TermType) (x y : Sizes) (e : x ≡ sizesOf a.kind) (f : y ≡ sizesOf b.kind) where
+module _ (a b : TermType) (x y : Sizes) (e : x ≡ sizes_of a.kind) (f : y ≡ sizes_of b.kind) where
   pub other_sizes : same_sizes x y ≡ false → false ≡ same_type a b
   unfolding same_type
   other_sizes h = rw (← e, ← f, h)
@@ -43,7 +43,7 @@ module _ (a b : TermType) (x y : Sizes) (e : x ≡ sizesOf a.kind) (f : y ≡ si
 
 -- ---- the first fault
 module _ (d : Derivation) (l r : Typing) (s early : ℕ)
-    (e : l ≡ typingOf d.ds d.left d.n) (f : r ≡ typingOf d.ds d.right d.m) (g : s ≡ steps_fault d.steps d.count) (h : early ≡ early_code l.code r.code s) where
+    (e : l ≡ typing_of d.ds d.left d.n) (f : r ≡ typing_of d.ds d.right d.m) (g : s ≡ steps_fault d.steps d.count) (h : early ≡ early_code l.code r.code s) where
   pub early_fault : early ≢ 0 → fault early 0 0 ≡ fault_in d
   unfolding fault_in fault_of
   early_fault z = rw (← e, ← f, ← g, ← h, ne_eqb early 0 z)
@@ -76,13 +76,13 @@ padded-same : (a b : List ℕ) → length a ≤ 63 → length b ≤ 63 → lengt
 padded-same a b h k l e = sym (front a h) ∙ ap (take (length a)) (same_words_eq (pad a) (pad b) e) ∙ rw l (front b k)
 
 parts_same : (a b : TermType) → same_type a b ≡ true
-    → let x = sizesOf a.kind in
-    let y = sizesOf b.kind in
+    → let x = sizes_of a.kind in
+    let y = sizes_of b.kind in
     (x.number ≡ y.number) × (x.rows ≡ y.rows) × (x.columns ≡ y.columns) × (same_words a.rows b.rows ≡ true) × (same_words a.columns b.columns ≡ true)
 unfolding same_type same_sizes
 parts_same a b e =
-    let x = sizesOf a.kind in
-    let y = sizesOf b.kind in
+    let x = sizes_of a.kind in
+    let y = sizes_of b.kind in
     let whole = (and-eq-true_iff (same_sizes x y) (same_words a.rows b.rows && same_words a.columns b.columns)).0 e in
     let sizes = (and-eq-true_iff (eqb x.number y.number) (eqb x.rows y.rows && eqb x.columns y.columns)).0 whole.0 in
     let lengths = (and-eq-true_iff (eqb x.rows y.rows) (eqb x.columns y.columns)).0 sizes.1 in
@@ -110,7 +110,7 @@ module _ {Γ : Context} (W : WellFormed Γ) where
   indices_same σ τ a b l e = same_index W a b (padded-same (words σ) (words τ) (index_short W a) (index_short W b) l e)
 
   pub sorts-same : (S R : Sort) → IsType S → IsType R → Proper Γ S → Proper Γ R → same_type (of_type S) (of_type R) ≡ true → S ≡ R
-  unfolding answer_of typing typeRecord
+  unfolding answer_of typing type_record
   sorts-same (index σ) R h k p q e = absurd h
   sorts-same (basis σ) R h k p q e = absurd h
   sorts-same scalar (index τ) h k p q e = absurd k

@@ -5,7 +5,7 @@ use Rattle.words.specs.Words.{same_words}
 use Rattle.typing.specs.declared.terms.Sizes.{Sizes}
 use Rattle.typing.specs.declared.terms.TermType.{TermType}
 use Rattle.typing.specs.declared.terms.Typing.{Typing}
-use Rattle.typing.specs.Answers.{sizesOf, typingOf}
+use Rattle.typing.specs.Answers.{sizes_of, typing_of}
 use Rattle.lent.specs.declared.faults.Fault as F
 use Rattle.lent.specs.Lent.{Derivation, steps_fault}
 
@@ -15,7 +15,7 @@ same_sizes a b = eqb a.number b.number && (eqb a.rows b.rows && eqb a.columns b.
 
 unfoldable pub same_type : TermType → TermType → Bool
 unfolding same_sizes same_words
-same_type a b = same_sizes (sizesOf a.kind) (sizesOf b.kind) && (same_words a.rows b.rows && same_words a.columns b.columns)
+same_type a b = same_sizes (sizes_of a.kind) (sizes_of b.kind) && (same_words a.rows b.rows && same_words a.columns b.columns)
 
 abbrev pub fault : ℕ → ℕ → ℕ → F.Fault
 fault code side at = record { code = code; side = side; at = at }
@@ -38,5 +38,5 @@ unfolding types_fault early_code
 fault_of l r steps = let early = early_code l.code r.code steps in cond (eqb early 0) (types_fault l r) (fault early 0 0)
 
 unfoldable pub fault_in : Derivation → F.Fault
-unfolding fault_of typingOf steps_fault
-fault_in d = fault_of (typingOf d.ds d.left d.n) (typingOf d.ds d.right d.m) (steps_fault d.steps d.count)
+unfolding fault_of typing_of steps_fault
+fault_in d = fault_of (typing_of d.ds d.left d.n) (typing_of d.ds d.right d.m) (steps_fault d.steps d.count)

@@ -3,7 +3,7 @@ use Rattle.std.specs.Prelude.{◌≡◌, Bool, cond, ◌&&◌, List, [], ◌∷�
 use Rattle.declarations.specs.declared.constructor.Put.{Put}
 use Rattle.declarations.specs.declared.constructor.Put.TheVariants.{Done, WrongSize, Full, Bad}
 use Rattle.typing.specs.declared.terms.Typing as T
-use Rattle.typing.specs.Answers.{sizesOf}
+use Rattle.typing.specs.Answers.{sizes_of}
 use Rattle.rules.specs.Steps.{Move}
 use Rattle.lent.specs.declared.steps.Step as L
 use Rattle.lent.specs.Lent.{side_in, asked}
@@ -33,7 +33,7 @@ step_numbers a = a.code ∷ a.side ∷ a.step ∷ a.at ∷ a.length ∷ []
 -- the typing's answer: the kind by its number, with the lengths of the indices of its rows and of its columns
 abbrev pub typing_numbers : T.Typing → List ℕ
 typing_numbers t =
-    let z = sizesOf t.of.kind in
+    let z = sizes_of t.of.kind in
     t.code ∷ t.side ∷ t.step ∷ t.at ∷ t.length ∷ t.depth ∷ z.number ∷ z.rows ∷ z.columns ∷ []
 
 -- the typing and the preview write into three slices

@@ -7,9 +7,9 @@ ghost use Rattle.std.specs.Prelude.{◌≡◌, cond, ◌&&◌, eqb, length, get_
 ghost use Rattle.term.specs.Parts.{part, part_depth};
 ghost use Rattle.declarations.specs.Declarations.{is_index, is_variable};
 ghost use Rattle.declarations.specs.Put as P;
-ghost use Rattle.typing.specs.Answers.{typingOf};
+ghost use Rattle.typing.specs.Answers.{typing_of};
 ghost use Rattle.lent.specs.Lent.{is_side, has_room, step_put};
-ghost use Rattle.step.specs.Answers.{answerTo, wordsLeft};
+ghost use Rattle.step.specs.Answers.{answer_to, words_left};
 ghost use Rattle.step.specs.Previews.{preview_of};
 ghost use Rattle.lent.specs.Lent.{lent};
 ghost use Rattle.step.specs.Runs.{run_answer, left_after, right_after};
@@ -108,8 +108,8 @@ pub extern "C" fn fejogbu_step(
 ) -> u64
     ensures returned { result ≡ status (of_size 5 answer.old) }
     ensures answered { answer.new ≡ handed (of_size 5 answer.old)
-        (step_numbers (answerTo ds.now term.old n (step_of rule place i j))) answer.old }
-    ensures terms { term.new ≡ handed (of_size 5 answer.old) (wordsLeft ds.now term.old n (step_of rule place i j)) term.old }
+        (step_numbers (answer_to ds.now term.old n (step_of rule place i j))) answer.old }
+    ensures terms { term.new ≡ handed (of_size 5 answer.old) (words_left ds.now term.old n (step_of rule place i j)) term.old }
 {
     if answer.len() != 5 {
         return 1;
@@ -190,7 +190,7 @@ pub extern "C" fn fejogbu_typing(
     columns: &mut [u16],
 ) -> u64
     ensures { Told answer.old rows.old columns.old
-        (typingOf ds.now term.now n) result answer.new rows.new columns.new }
+        (typing_of ds.now term.now n) result answer.new rows.new columns.new }
 {
     hand_out(answer, rows, columns, type_term(ds, term, n))
 }

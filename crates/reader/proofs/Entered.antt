@@ -17,7 +17,7 @@ use Rattle.format.specs.Files.{File, max_bytes}
 use Rattle.format.specs.Reading.{Reading, fault, read, read_from, nothing, read_of}
 use Rattle.format.proofs.Codes.{fault-code}
 use Rattle.reader.specs.declared.files.Read.{Read}
-use Rattle.reader.specs.Answers.{readRefusal, answer_of, slice, sized, readAnswer, after, Done}
+use Rattle.reader.specs.Answers.{read_refusal, answer_of, slice, sized, read_answer, after, Done}
 use Rattle.reader.specs.declared.faults.Fault.{Fault}
 use Rattle.reader.specs.Code.Lines as L
 use Rattle.reader.specs.Code.Holding.{BytesTold, Sizes, Found}
@@ -25,7 +25,7 @@ use Rattle.reader.proofs.Behind.{cleared-all}
 
 -- ---- 2 and 3
 module _ (bytes : Text) where
-  told-fault : {c n : ℕ} {r : Fault} → r ≡ L.fault c n → c ≢ 0 → readRefusal c n ≡ answer_of (read_of bytes) → BytesTold bytes r
+  told-fault : {c n : ℕ} {r : Fault} → r ≡ L.fault c n → c ≢ 0 → read_refusal c n ≡ answer_of (read_of bytes) → BytesTold bytes r
   told-fault e n a = rw e record { refused = λ x. a; few = λ z. absurd (n z); fine = λ z. absurd (n z) }
 
   pub too_long : {r : Fault} → r ≡ L.fault 2 0 → max_bytes < length bytes → BytesTold bytes r
@@ -66,13 +66,13 @@ all-sized ds left right steps e =
     (eqb-true _ _ a.0, eqb-true _ _ b.0, eqb-true _ _ c.0, eqb-true _ _ c.1)
 
 module _ (bytes ds left right steps : List ℕ) where
-  pub unsized : {r : Read} → sized ds left right steps ≡ false → r ≡ readRefusal 1 0 → Done bytes ds left right steps r ds left right steps
-  unfolding readAnswer after
+  pub unsized : {r : Read} → sized ds left right steps ≡ false → r ≡ read_refusal 1 0 → Done bytes ds left right steps r ds left right steps
+  unfolding read_answer after
   unsized e a = record { answer = a ∙ rw e; declarations = rw e; lefts = rw e; rights = rw e; moves = rw e }
 
   module _ (e : sized ds left right steps ≡ true) {r : Read} {es ks qs ns : List ℕ} (x : Found (read_of bytes) r es ks qs ns) where
-    answered : r ≡ readAnswer bytes ds left right steps
-    unfolding readAnswer
+    answered : r ≡ read_answer bytes ds left right steps
+    unfolding read_answer
     answered = x.answer ∙ rw e
 
     -- a fault's zeros

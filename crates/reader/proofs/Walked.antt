@@ -27,7 +27,7 @@ use Rattle.lent.specs.Lent.{max_steps}
 use Rattle.reader.specs.declared.files.Read.{Read}
 use Rattle.reader.specs.declared.walking.State.{State}
 use Rattle.reader.specs.declared.walking.Taken.{Taken}
-use Rattle.reader.specs.Answers.{readRefusal, answer_of}
+use Rattle.reader.specs.Answers.{read_refusal, answer_of}
 use Rattle.reader.specs.Code.Lines.{Answers}
 use Rattle.reader.specs.Code.Holding.{Holding, After, LineRead, ended_in, Sizes, Found}
 use Rattle.reader.proofs.Held.{stage-few, few-steps-at}
@@ -104,11 +104,11 @@ next_line bytes at {r} (x ∷ xs) e l h p =
 
 -- ---- a line's fault, and no fault
 module _ (n s : ℕ) (f : File) (l : Text) (ls : List Text) (r : Taken) (answer : Answers n (line_taken s f l) r.fault) where
-  line-fault : r.fault.code ≢ 0 → readRefusal r.fault.code r.fault.at ≡ answer_of (read_from n s f (l ∷ ls))
+  line-fault : r.fault.code ≢ 0 → read_refusal r.fault.code r.fault.at ≡ answer_of (read_from n s f (l ∷ ls))
   unfolding read_from on_line Answers answer_of
   line-fault h = go (line_taken s f l) answer
     where
-      go : (x : Line) → Answers n x r.fault → readRefusal r.fault.code r.fault.at ≡ answer_of (on_line x (λ c. R.fault c n) (λ g. read_from (n + 1) (stage_after (key_of l)) g ls))
+      go : (x : Line) → Answers n x r.fault → read_refusal r.fault.code r.fault.at ≡ answer_of (on_line x (λ c. R.fault c n) (λ g. read_from (n + 1) (stage_after (key_of l)) g ls))
       go (wrong c) e = rw e
       go (good g) e = absurd (h e)
 
@@ -131,7 +131,7 @@ unfolding answer_of
 code_of e = rw e
 
 -- a fault leaves nothing to be said of the words
-pub found-fault : {o : Reading} {r : Read} {c n : ℕ} {ds ls rs ms : List ℕ} → r ≡ readRefusal c n → readRefusal c n ≡ answer_of o → c ≢ 0 → Sizes ds ls rs ms → Found o r ds ls rs ms
+pub found-fault : {o : Reading} {r : Read} {c n : ℕ} {ds ls rs ms : List ℕ} → r ≡ read_refusal c n → read_refusal c n ≡ answer_of o → c ≢ 0 → Sizes ds ls rs ms → Found o r ds ls rs ms
 found-fault {o} {r} {c} e a n z = record { answer = e ∙ a; sizes = z; words = λ f k. absurd (n (ap (λ x. x.code) a ∙ code_of k)) }
 
 -- ---- from line to line
@@ -143,7 +143,7 @@ module _ {bytes : Text} {at line : ℕ} {s : State} {ds ls rs ms : List ℕ} (h 
   next g e = next_line bytes at h.lines h.text h.lack g e
 
   module _ {p : Span} (x : Next bytes at p h.lines) {r : Taken} {es ks qs ns : List ℕ} (a : After line (key_of x.line) (line_taken s.stage h.file x.line) r es ks qs ns) where
-    stops : r.fault.code ≢ 0 → readRefusal r.fault.code r.fault.at ≡ answer_of (read_from 1 0 nothing (lines_of bytes))
+    stops : r.fault.code ≢ 0 → read_refusal r.fault.code r.fault.at ≡ answer_of (read_from 1 0 nothing (lines_of bytes))
     stops c = line-fault line s.stage h.file x.line x.others r a.answer c ∙ rw (h.same, x.are)
 
     goes_on : r.fault.code ≡ 0 → Rest bytes p.next (line + 1) r.state es ks qs ns
@@ -202,7 +202,7 @@ module _ {bytes : Text} {at line : ℕ} {over : Bool} {s : State} {ds ls rs ms :
       taken : After line (key_of line_at.line) (line_taken s.stage h.rest.file line_at.line) r es ks qs ns
       taken = rw line_at.is at (told.4 h.rest.file h.rest.holding)
 
-      pub line_refused : {a : Read} → a ≡ readRefusal r.fault.code r.fault.at → r.fault.code ≢ 0 → Found (read_from 1 0 nothing (lines_of bytes)) a es ks qs ns
+      pub line_refused : {a : Read} → a ≡ read_refusal r.fault.code r.fault.at → r.fault.code ≢ 0 → Found (read_from 1 0 nothing (lines_of bytes)) a es ks qs ns
       line_refused a n = found-fault a (stops h.rest line_at taken n) n sizes-kept
 
       pub line_taken_lem : r.fault.code ≡ 0 → Standing bytes p.next (line + 1) p.last r.state es ks qs ns

@@ -9,12 +9,12 @@ use Rattle.format.specs.Reading.{Reading, fault, read, read_of}
 use Rattle.format.specs.Kept.{steps_size, declarations_of, padded, steps_of}
 use Rattle.reader.specs.declared.files.Read.{Read}
 
-abbrev pub readRefusal : ℕ → ℕ → Read
-readRefusal code at = record { code = code; at = at; left = 0; right = 0; steps = 0 }
+abbrev pub read_refusal : ℕ → ℕ → Read
+read_refusal code at = record { code = code; at = at; left = 0; right = 0; steps = 0 }
 
 -- what was read: its lengths, and how many steps it has
 unfoldable pub answer_of : Reading → Read
-answer_of (fault c n) = readRefusal c n
+answer_of (fault c n) = read_refusal c n
 answer_of (read f) = record { code = 0; at = 0; left = length f.left; right = length f.right; steps = length f.steps }
 
 -- the words that a file leaves, and zeros behind a fault
@@ -27,9 +27,9 @@ unfoldable pub sized : List ℕ → List ℕ → List ℕ → List ℕ → Bool
 sized ds left right steps = eqb (length ds) size && (eqb (length left) max_words && (eqb (length right) max_words && eqb (length steps) steps_size))
 
 module _ (bytes ds left right steps : List ℕ) where
-  unfoldable pub readAnswer : Read
+  unfoldable pub read_answer : Read
   unfolding sized answer_of read_of
-  readAnswer = cond (sized ds left right steps) (answer_of (read_of bytes)) (readRefusal 1 0)
+  read_answer = cond (sized ds left right steps) (answer_of (read_of bytes)) (read_refusal 1 0)
 
   unfoldable pub after : List ℕ → (File → List ℕ) → List ℕ
   unfolding sized slice read_of
@@ -37,7 +37,7 @@ module _ (bytes ds left right steps : List ℕ) where
 
 -- what is answered, and what then stands in the four slices
 pub record Done (bytes ds left right steps : List ℕ) (r : Read) (ds' left' right' steps' : List ℕ) : Type 0 where
-  pub answer : r ≡ readAnswer bytes ds left right steps
+  pub answer : r ≡ read_answer bytes ds left right steps
   pub declarations : ds' ≡ after bytes ds left right steps ds declarations_of
   pub lefts : left' ≡ after bytes ds left right steps left λ f. padded f.left
   pub rights : right' ≡ after bytes ds left right steps right λ f. padded f.right

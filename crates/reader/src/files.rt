@@ -1,7 +1,7 @@
 // The reading of a file into lent words: declarations, two terms, steps. Nothing is relied on.
 ghost use Rattle.std.specs.Prelude.{◌≡◌, length};
 ghost use Rattle.format.specs.Reading.{read_of};
-ghost use Rattle.reader.specs.Answers.{readRefusal, sized, Done};
+ghost use Rattle.reader.specs.Answers.{read_refusal, sized, Done};
 ghost use Rattle.reader.specs.Code.Holding.{BytesTold, ended_in, Found};
 
 use crate::faults::{Fault, refused};
@@ -25,7 +25,7 @@ pub struct Read {
 pub const STEPS_SIZE: usize = 8000;
 
 fn refuse(code: usize, at: usize) -> Read
-    ensures { result ≡ readRefusal code at }
+    ensures { result ≡ read_refusal code at }
 {
     Read {
         code,

@@ -11,12 +11,12 @@ use Rattle.declarations.specs.Declarations.{context_in, is_index, is_variable, g
 use Rattle.rules.specs.Table.{rule_of}
 use Rattle.rules.specs.Rewrite.{is_head, and_then, hold, match, satisfied, filled, behind, open_at, remove_at, multiple_of, collected, collect_before, collect_at, rewrite}
 use Rattle.rules.specs.Steps.{step_of}
-use Rattle.typing.specs.Answers.{typingOf}
-use Rattle.step.specs.Answers.{answerTo, wordsLeft}
+use Rattle.typing.specs.Answers.{typing_of}
+use Rattle.step.specs.Answers.{answer_to, words_left}
 use Rattle.step.specs.Examples.{declarations, slice, Examples}
 
 pub examples : Examples
-unfolding declarations cleared slice answerTo wordsLeft typingOf good_declarations is_index is_variable context_in declared step_of inside later binds type_of tree_in parse part read conclude
+unfolding declarations cleared slice answer_to words_left typing_of good_declarations is_index is_variable context_in declared step_of inside later binds type_of tree_in parse part read conclude
     word head_of words rule_of subtree rewrite satisfied filled match is_head and_then hold replace count ◌⧺◌ open_at behind remove_at collect_at collect_before collected multiple_of
 examples = record {
   delta_of_one = (refl, refl);

@@ -15,20 +15,20 @@ use Rattle.types.specs.Sorts.{Sort, IsType}
 use Rattle.declarations.specs.Declarations.{context_in, good_declarations}
 use Rattle.declarations.proofs.Entries.{counts_in}
 use Rattle.typing.specs.declared.terms.Typing as A
-use Rattle.typing.specs.Answers.{typingOf, TypedTerm}
+use Rattle.typing.specs.Answers.{typing_of, TypedTerm}
 use Rattle.typing.proofs.Theorems.{complete_entry}
 use Rattle.lent.proofs.Judging.{type-told}
 use Rattle.rules.specs.Steps.{step_of}
 use Rattle.lent.specs.declared.steps.Step.{Step}
 use Rattle.lent.specs.Lent.{asked}
-use Rattle.step.specs.Answers.{held, stepIn}
+use Rattle.step.specs.Answers.{held, step_in}
 
 module _ {ds ws : List ℕ} {n : ℕ} {t : Tree} {S : Sort} (h : TypedTerm ds ws n t S) where
-  pub accepted-code : (typingOf ds ws n).code ≡ 0
+  pub accepted-code : (typing_of ds ws n).code ≡ 0
   accepted-code = ap (λ (a : A.Typing). a.code) (complete_entry ds ws n t S h) ∙ (type-told n (depth t) S h.is_type).0
 
-  pub its_step : (s : Step) → stepIn ds ws n s ≡ step_of (context_in ds) t (asked s)
-  unfolding stepIn tree_in
+  pub its_step : (s : Step) → step_in ds ws n s ≡ step_of (context_in ds) t (asked s)
+  unfolding step_in tree_in
   its_step s = rw (← h.is, parse-tree t h.term.formed)
 
   pub its_type : Typed (context_in ds) S t

@@ -19,7 +19,7 @@ use Rattle.term.specs.Terms.{max_words}
 use Rattle.types.specs.Sorts.{Sort, Context}
 use Rattle.declarations.specs.Declarations.{context_in}
 use Rattle.declarations.proofs.Entries.{well_formed}
-use Rattle.typing.specs.Answers.{typingOf, TypedTerm}
+use Rattle.typing.specs.Answers.{typing_of, TypedTerm}
 use Rattle.rules.specs.Steps.{Stepped, step_of, Move, Sides, side_number, Run, run_of}
 use Rattle.rules.proofs.Steps.{step_decided, step-keeps-type}
 use Rattle.lent.specs.declared.steps.Step.{Step}
@@ -43,7 +43,7 @@ module _ {ds ws : List ℕ} {n : ℕ} {S : Sort} {t : Tree} (x : Holding ds ws n
   pub its_term : TypedTerm ds ws n t S
   its_term = rw (x.slice, x.long) (held-typed x.good x.is_type x.typed)
 
-  pub asks : ((typingOf ds ws n).code ≡ 0) × (cleared ws n ≡ ws)
+  pub asks : ((typing_of ds ws n).code ≡ 0) × (cleared ws n ≡ ws)
   asks = (accepted-code its_term, rw (x.slice, x.long) (held-cleared t))
 
   module _ (s : Step) where

@@ -20,7 +20,7 @@ use Rattle.declarations.proofs.Entries.{well_formed}
 use Rattle.typing.specs.declared.terms.Kind.TheVariants as Kinds
 use Rattle.typing.specs.declared.terms.TermType.{TermType}
 use Rattle.typing.specs.declared.terms.Typing.{Typing}
-use Rattle.typing.specs.Answers.{typeRecord, refuse, answer_of, typing, typingOf, TypedTerm, Verdict}
+use Rattle.typing.specs.Answers.{type_record, refuse, answer_of, typing, typing_of, TypedTerm, Verdict}
 use Rattle.typing.specs.Answers as Said
 use Rattle.typing.proofs.Theorems.{complete_entry, sound_entry, decided}
 use Rattle.lent.proofs.Judging.{type-told}
@@ -33,7 +33,7 @@ use Rattle.rules.specs.Outcomes.{Outcome, good, no_rule, no_place, no_instance, 
 use Rattle.families.specs.Writing.{keeps_depth}
 use Rattle.families.proofs.Depths.{same-depth}
 use Rattle.rules.proofs.Steps.{step-keeps-type}
-use Rattle.step.specs.Answers.{stepIn, stepped, answerTo, wordsLeft}
+use Rattle.step.specs.Answers.{step_in, stepped, answer_to, words_left}
 use Rattle.step.specs.Code.Making.{Made, shown}
 use Rattle.step.specs.Previews.{typing_after, preview_of}
 use Rattle.step.specs.Statements.{Previews}
@@ -43,7 +43,7 @@ use Rattle.step.proofs.Taking.{tree, is-typed, outcome, stays, refused-length, a
 
 -- ---- no words are no term
 abbrev Bare : Typing → Type 0
-Bare a = (a.length ≡ 0) × (a.depth ≡ 0) × (a.of ≡ typeRecord Kinds.Scalar [] [])
+Bare a = (a.length ≡ 0) × (a.depth ≡ 0) × (a.of ≡ type_record Kinds.Scalar [] [])
 
 no_words : {ds ws : List ℕ} {a : Typing} → Verdict ds ws 0 a → Bare a
 unfolding refuse
@@ -66,14 +66,14 @@ refused-is (Said.no_sort h g f e) z = refl
 refused-is (Said.no_type h g f) z = refl
 refused-is {n = n} (Said.a_type {t} {S} h) z = absurd (z (type-told n (depth t) S h.is_type).0)
 
-module _ (ds ws : List ℕ) (n : ℕ) (s : Step) (refused : (typingOf ds ws n).code ≢ 0) where
-  no_length : (answerTo ds ws n s).length ≡ 0
+module _ (ds ws : List ℕ) (n : ℕ) (s : Step) (refused : (typing_of ds ws n).code ≢ 0) where
+  no_length : (answer_to ds ws n s).length ≡ 0
   no_length = rw (refusals ds ws n refused s).answer
 
   nothing-after : Bare (typing_after ds ws n s)
-  nothing-after = rw no_length (no_words (decided ds (wordsLeft ds ws n s) 0))
+  nothing-after = rw no_length (no_words (decided ds (words_left ds ws n s) 0))
 
-  pub preview_refused : {a : Typing} → a ≡ typingOf ds ws n → a ≡ preview_of ds ws n s
+  pub preview_refused : {a : Typing} → a ≡ typing_of ds ws n → a ≡ preview_of ds ws n s
   unfolding preview_of refuse
   preview_refused e =
       let after = nothing-after in
@@ -95,12 +95,12 @@ unfolding part_depth first_depth
 words-depth t f = rw (parse-tree t f)
 
 module _ {ds ws : List ℕ} {n : ℕ} {t : Tree} {S : Sort} (h : TypedTerm ds ws n t S) where
-  typed-depth : (typingOf ds ws n).depth ≡ depth t
+  typed-depth : (typing_of ds ws n).depth ≡ depth t
   typed-depth = rw (complete_entry _ _ _ _ _ h) (type-told _ _ S h.is_type).3
 
   module _ (s : Step) where
     abbrev left : R.Stepped
-    left = stepIn ds ws n s
+    left = step_in ds ws n s
 
     kept : Typed (context_in ds) S left.tree
     kept = rw (its_step h s) (step-keeps-type _ (well_formed ds h.good) S t (its_type h) (asked s))
@@ -112,15 +112,15 @@ module _ {ds ws : List ℕ} {n : ℕ} {t : Tree} {S : Sort} (h : TypedTerm ds ws
     after-code : (typing_after ds ws n s).code ≡ 0
     after-code = rw after_is (type-told _ _ S h.is_type).0
 
-    after-length : (typing_after ds ws n s).length ≡ (answerTo ds ws n s).length
+    after-length : (typing_after ds ws n s).length ≡ (answer_to ds ws n s).length
     unfolding stepped
     after-length = rw (after_is, (type-told (length (words left.tree)) (depth left.tree) S h.is_type).2, (entry ds ws n t S h s).answer, its_step h s)
 
-    same-type : (typing_after ds ws n s).of ≡ (typingOf ds ws n).of
+    same-type : (typing_after ds ws n s).of ≡ (typing_of ds ws n).of
     same-type = rw (after_is, complete_entry _ _ _ _ _ h) (type-alike _ _ _ _ S)
 
     -- the preview is known by the code, the length and the depth of what is left
-    preview_of_lem : {code long deep : ℕ} {of : TermType} → code ≡ left.code → long ≡ length (words left.tree) → deep ≡ depth left.tree → of ≡ (typingOf ds ws n).of
+    preview_of_lem : {code long deep : ℕ} {of : TermType} → code ≡ left.code → long ≡ length (words left.tree) → deep ≡ depth left.tree → of ≡ (typing_of ds ws n).of
         → shown code s.place long deep of ≡ preview_of ds ws n s
     unfolding preview_of shown stepped
     preview_of_lem c l d o =
@@ -136,12 +136,12 @@ kept-depth (no_instance e f x) z q = absurd (omega arith)
 kept-depth (too_big e f x g) z q = absurd (omega arith)
 
 -- ---- and the words from its place on, made apart
-module _ (ds ws : List ℕ) (n : ℕ) (accepted : (typingOf ds ws n).code ≡ 0) (s : Step) {T : Typing} (is : T ≡ typingOf ds ws n) {out : List ℕ} {r : Rewritten}
-    (m : Made (tree ds ws n accepted) (stepIn ds ws n s) s.place out r) where
+module _ (ds ws : List ℕ) (n : ℕ) (accepted : (typing_of ds ws n).code ≡ 0) (s : Step) {T : Typing} (is : T ≡ typing_of ds ws n) {out : List ℕ} {r : Rewritten}
+    (m : Made (tree ds ws n accepted) (step_in ds ws n s) s.place out r) where
   pub shows_refused : r.code ≢ 0 → {p : Typing} → p ≡ shown r.code s.place n T.depth T.of → p ≡ preview_of ds ws n s
   shows_refused z e =
       let h = is-typed ds ws n accepted in
-      let bad : (stepIn ds ws n s).code ≢ 0 = λ c. z (m.code ∙ c) in
+      let bad : (step_in ds ws n s).code ≢ 0 = λ c. z (m.code ∙ c) in
       let deep = ap (λ (a : Typing). a.depth) is ∙ typed-depth h ∙ ap depth (sym (stays ds ws n accepted s bad)) in
       e ∙ preview_of_lem h s m.code (refused-length ds ws n accepted s bad) deep (ap (λ (a : Typing). a.of) is)
 
@@ -155,7 +155,7 @@ module _ (ds ws : List ℕ) (n : ℕ) (accepted : (typingOf ds ws n).code ≡ 0)
   shows_done z deep e =
       let h = is-typed ds ws n accepted in
       let all = ap (λ (v : List ℕ). part_depth v 0) (sym (all_words ds ws n accepted s out r m z)) in
-      let d = deep ∙ all ∙ words-depth (stepIn ds ws n s).tree (kept h s).form.formed in
+      let d = deep ∙ all ∙ words-depth (step_in ds ws n s).tree (kept h s).form.formed in
       e ∙ preview_of_lem h s (sym z ∙ m.code) (new-length ds ws n accepted s out r m z) d (ap (λ (a : Typing). a.of) is)
 
 -- two runs of words in one slice

@@ -17,7 +17,7 @@ use Rattle.types.specs.Sorts.{Context, Sort}
 use Rattle.declarations.specs.Declarations.{context_in}
 use Rattle.declarations.proofs.Entries.{well_formed}
 use Rattle.typing.specs.declared.terms.Typing.{Typing}
-use Rattle.typing.specs.Answers.{typingOf, TypedTerm}
+use Rattle.typing.specs.Answers.{typing_of, TypedTerm}
 use Rattle.typing.proofs.Theorems.{sound_entry}
 use Rattle.rules.specs.Steps as R
 use Rattle.rules.specs.Outcomes.{Outcome, good, no_rule, no_place, no_instance, too_big}
@@ -26,7 +26,7 @@ use Rattle.lent.specs.declared.steps.Step.{Step}
 use Rattle.step.specs.declared.single.Answer.{Answer}
 use Rattle.families.specs.declared.writing.Rewritten.{Rewritten}
 use Rattle.lent.specs.Lent.{asked}
-use Rattle.step.specs.Answers.{held, stepIn, stepRefusal, stepped, answerTo, wordsLeft}
+use Rattle.step.specs.Answers.{held, step_in, step_refusal, stepped, answer_to, words_left}
 use Rattle.step.specs.Code.Making.{Termed, Made}
 use Rattle.step.proofs.Theorems.{refusals}
 use Rattle.step.proofs.Held.{accepted-code, its_step, its_type}
@@ -49,10 +49,10 @@ inside_by (too_big e f x g) h = absurd (omega arith)
 -- ---- what is said of a step that was refused, and of one that was done
 abbrev pub Tells : List ℕ → List ℕ → ℕ → Step → ℕ → ℕ → List ℕ → ℕ → Type 0
 Tells ds ws n s code length' ws' size =
-    let after = stepIn ds ws n s in
+    let after = step_in ds ws n s in
     (code ≡ after.code) × (length' ≡ length (words after.tree)) × (ws' ≡ held after.tree) × (size ≡ max_words)
 
-module _ (ds ws : List ℕ) (n : ℕ) (accepted : (typingOf ds ws n).code ≡ 0) where
+module _ (ds ws : List ℕ) (n : ℕ) (accepted : (typing_of ds ws n).code ≡ 0) where
   abbrev pub tree : Tree
   tree = (sound_entry ds ws n accepted).0
 
@@ -81,7 +81,7 @@ module _ (ds ws : List ℕ) (n : ℕ) (accepted : (typingOf ds ws n).code ≡ 0)
 
   module _ (s : Step) where
     abbrev after : R.Stepped
-    after = stepIn ds ws n s
+    after = step_in ds ws n s
 
     pub outcome : Outcome (context_in ds) tree (asked s) after.code after.tree
     outcome = rw (its_step is-typed s) (step_decided (context_in ds) (well_formed ds is-typed.good) sort tree (its_type is-typed) (asked s))
@@ -133,12 +133,12 @@ module _ (ds ws : List ℕ) (n : ℕ) (accepted : (typingOf ds ws n).code ≡ 0)
     made_for out r m = rw (its_step is-typed s) (m termed)
 
 -- ---- the slice with zeros behind it
-module _ (ds ws : List ℕ) (n : ℕ) (accepted : (typingOf ds ws n).code ≡ 0) where
+module _ (ds ws : List ℕ) (n : ℕ) (accepted : (typing_of ds ws n).code ≡ 0) where
   take-cleared : take n (cleared ws n) ≡ take n ws
   unfolding cleared
   take-cleared = take_at (take n ws) _ n (length-take-le n ws (inside-slice ds ws n accepted))
 
-  pub cleared-accepted : (typingOf ds (cleared ws n) n).code ≡ 0
+  pub cleared-accepted : (typing_of ds (cleared ws n) n).code ≡ 0
   cleared-accepted =
       let h = (sound_entry ds ws n accepted).2 in
       let z = length-cleared ws n in
@@ -153,37 +153,37 @@ module _ (ds ws : List ℕ) (n : ℕ) (accepted : (typingOf ds ws n).code ≡ 0)
         rules = h.rules;
       })
 
-  cleared-step : (s : Step) → stepIn ds (cleared ws n) n s ≡ stepIn ds ws n s
-  unfolding stepIn
+  cleared-step : (s : Step) → step_in ds (cleared ws n) n s ≡ step_in ds ws n s
+  unfolding step_in
   cleared-step s = rw take-cleared
 
   -- what the entry answers and leaves, from what the step on the cleared slice did
   module _ (s : Step) (code length' at size : ℕ) (mid ws' : List ℕ) (is : mid ≡ cleared ws n) (told : Tells ds mid n s code length' ws' size)
       (at-is : at ≡ cond (eqb code 0) 0 s.place) where
-    same_step : stepIn ds mid n s ≡ stepIn ds ws n s
-    same_step = ap (λ (v : List ℕ). stepIn ds v n s) is ∙ cleared-step s
+    same_step : step_in ds mid n s ≡ step_in ds ws n s
+    same_step = ap (λ (v : List ℕ). step_in ds v n s) is ∙ cleared-step s
 
-    code_is : code ≡ (stepIn ds ws n s).code
+    code_is : code ≡ (step_in ds ws n s).code
     code_is = rw same_step at told.0
 
-    length-is : length' ≡ length (words (stepIn ds ws n s).tree)
+    length-is : length' ≡ length (words (step_in ds ws n s).tree)
     length-is = rw same_step at told.1
 
-    slice_is : ws' ≡ held (stepIn ds ws n s).tree
+    slice_is : ws' ≡ held (step_in ds ws n s).tree
     slice_is = rw same_step at told.2
 
-    pub entry_done : (record { code = code; side = 0; step = 1; at = at; length = length' } ≡ answerTo ds ws n s) × (ws' ≡ wordsLeft ds ws n s)
-    unfolding answerTo wordsLeft stepped
+    pub entry_done : (record { code = code; side = 0; step = 1; at = at; length = length' } ≡ answer_to ds ws n s) × (ws' ≡ words_left ds ws n s)
+    unfolding answer_to words_left stepped
     entry_done = (rw (accepted, at-is, code_is, length-is), rw accepted slice_is)
 
 -- ---- and where typing refused
-module _ (ds ws : List ℕ) (n : ℕ) (s : Step) (T : Typing) (r : Answer) (is : T ≡ typingOf ds ws n) (answer : r ≡ stepRefusal T.code T.at) where
-  pub untouched : T.code ≡ 1 → (r ≡ answerTo ds ws n s) × (ws ≡ wordsLeft ds ws n s)
+module _ (ds ws : List ℕ) (n : ℕ) (s : Step) (T : Typing) (r : Answer) (is : T ≡ typing_of ds ws n) (answer : r ≡ step_refusal T.code T.at) where
+  pub untouched : T.code ≡ 1 → (r ≡ answer_to ds ws n s) × (ws ≡ words_left ds ws n s)
   untouched h =
       let f = refusals ds ws n (rw (← is) (omega arith)) s in
       (answer ∙ rw is (sym f.answer), sym (f.untouched (rw (← is) h)))
 
-  pub all-zeros : (ws' : List ℕ) → ws' ≡ cleared ws 0 → T.code ≢ 0 → T.code ≢ 1 → (r ≡ answerTo ds ws n s) × (ws' ≡ wordsLeft ds ws n s)
+  pub all-zeros : (ws' : List ℕ) → ws' ≡ cleared ws 0 → T.code ≢ 0 → T.code ≢ 1 → (r ≡ answer_to ds ws n s) × (ws' ≡ words_left ds ws n s)
   unfolding cleared
   all-zeros ws' e g h =
       let f = refusals ds ws n (rw (← is) g) s in

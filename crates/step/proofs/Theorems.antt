@@ -12,7 +12,7 @@ use Rattle.rules.specs.Steps.{step_of, steps_of}
 use Rattle.rules.proofs.Steps.{step_decided, step-keeps-type, steps_keep_type, steps_keep_meaning}
 use Rattle.lent.specs.declared.steps.Step.{Step}
 use Rattle.lent.specs.Lent.{asked}
-use Rattle.step.specs.Answers.{stepped, answerTo, wordsLeft}
+use Rattle.step.specs.Answers.{stepped, answer_to, words_left}
 use Rattle.step.specs.Calls.{Work, holding, after, after_all, Course, ended, called, leaving}
 use Rattle.step.specs.Statements.{Entry, Refusals, Lists}
 use Rattle.step.proofs.Alike.{alike}
@@ -20,11 +20,11 @@ use Rattle.step.proofs.Held.{accepted-code, its_step, its_type, held-typed}
 
 -- ---- one call
 pub entry : Entry
-unfolding answerTo wordsLeft
+unfolding answer_to words_left
 entry ds ws n t S h s = record { answer = rw (accepted-code h, its_step h s); slice = rw (accepted-code h, its_step h s) }
 
 pub refusals : Refusals
-unfolding answerTo wordsLeft
+unfolding answer_to words_left
 refusals ds ws n h s = record { answer = rw (ne_eqb _ _ h); untouched = λ e. rw (ne_eqb _ _ h, e); zeros = λ e. rw (ne_eqb _ _ h, ne_eqb _ _ e) }
 
 -- ---- a list of calls

@@ -3,27 +3,27 @@ use Rattle.std.specs.Prelude.{◌≡◌, ◌≢◌, List, [], ◌∷◌, ℕ, le
 use Rattle.term.specs.Trees.{Tree, words}
 use Rattle.types.specs.Sorts.{Sort}
 use Rattle.declarations.specs.Declarations.{context_in}
-use Rattle.typing.specs.Answers.{typingOf}
+use Rattle.typing.specs.Answers.{typing_of}
 use Rattle.rules.specs.Steps.{Stepped}
 use Rattle.rules.specs.Outcomes.{Outcome}
 use Rattle.lent.specs.declared.steps.Step.{Step}
 use Rattle.lent.specs.Lent.{asked}
-use Rattle.step.specs.Answers.{held, stepRefusal, stepped, answerTo, wordsLeft}
+use Rattle.step.specs.Answers.{held, step_refusal, stepped, answer_to, words_left}
 use Rattle.step.specs.Alike.{Alike}
 
 -- ---- one call
 -- 01: "Side is 0, .. step is 1 from 20 on and for a good step", at is "its place" from 20 on and else 0, the length is that of the term left; the slice holds
 -- "the term or its result with zeros behind", 4,096 words in all
 pub record Done (ds ws : List ℕ) (n : ℕ) (s : Step) (r : Stepped) : Type 0 where
-  pub answer : answerTo ds ws n s ≡ stepped s.place r
-  pub slice : wordsLeft ds ws n s ≡ held r.tree
+  pub answer : answer_to ds ws n s ≡ stepped s.place r
+  pub slice : words_left ds ws n s ≡ held r.tree
 
 -- 01: "They test 1; 7 for bad declarations; 8, also for a length that is not the term's; 10; 11", as typing does; "1 .. slices untouched", "The step leaves only
 -- zeros after 7 to 11", and after 13: 02, CR 1, "13 is as 10"
 pub record Refused (ds ws : List ℕ) (n : ℕ) (s : Step) : Type 0 where
-  pub answer : answerTo ds ws n s ≡ stepRefusal (typingOf ds ws n).code (typingOf ds ws n).at
-  pub untouched : (typingOf ds ws n).code ≡ 1 → wordsLeft ds ws n s ≡ ws
-  pub zeros : (typingOf ds ws n).code ≢ 1 → wordsLeft ds ws n s ≡ replicate (length ws) 0
+  pub answer : answer_to ds ws n s ≡ step_refusal (typing_of ds ws n).code (typing_of ds ws n).at
+  pub untouched : (typing_of ds ws n).code ≡ 1 → words_left ds ws n s ≡ ws
+  pub zeros : (typing_of ds ws n).code ≢ 1 → words_left ds ws n s ≡ replicate (length ws) 0
 
 -- ---- a list of calls
 -- 01: "one work slice and a length"
@@ -37,7 +37,7 @@ holding t = record { slice = held t; length = length (words t) }
 
 -- 01: "Each later step gets the first one's declarations and the slice and length that the step before it left; nobody else writes them meanwhile"
 abbrev pub after : List ℕ → Work → Step → Work
-after ds w s = record { slice = wordsLeft ds w.slice w.length s; length = (answerTo ds w.slice w.length s).length }
+after ds w s = record { slice = words_left ds w.slice w.length s; length = (answer_to ds w.slice w.length s).length }
 
 unfoldable pub after_all : List ℕ → Work → List Step → Work
 after_all ds w [] = w

@@ -4,10 +4,10 @@ use Rattle.term.specs.Terms.{max_words}
 use Rattle.declarations.specs.Declarations.{size}
 use Rattle.declarations.specs.Put.{started, basis_put, variable_put}
 use Rattle.typing.specs.declared.terms.Typing.{Typing}
-use Rattle.typing.specs.Answers.{typingOf}
+use Rattle.typing.specs.Answers.{typing_of}
 use Rattle.lent.specs.declared.steps.Step.{Step}
 use Rattle.step.specs.declared.single.Answer.{Answer}
-use Rattle.step.specs.Answers.{answerTo, wordsLeft}
+use Rattle.step.specs.Answers.{answer_to, words_left}
 
 -- a token h:a, or h with a = 0
 infix 75 ◌⦂◌
@@ -31,14 +31,14 @@ abbrev pub rule : ℕ → ℕ → ℕ → Step
 rule n i j = record { rule = n; place = 0; i = i; j = j }
 
 abbrev pub typing : List ℕ → Typing
-typing ws = typingOf declarations (slice ws) (length ws)
+typing ws = typing_of declarations (slice ws) (length ws)
 
 abbrev pub answer : Step → List ℕ → Answer
-answer s ws = answerTo declarations (slice ws) (length ws) s
+answer s ws = answer_to declarations (slice ws) (length ws) s
 
 -- the step is good, and leaves other words
 abbrev pub Gives : Step → List ℕ → List ℕ → Type 0
-Gives s ws us = ((answer s ws).code ≡ 0) × (wordsLeft declarations (slice ws) (length ws) s ≡ slice us)
+Gives s ws us = ((answer s ws).code ≡ 0) × (words_left declarations (slice ws) (length ws) s ≡ slice us)
 
 pub record Examples : Type 0 where
   -- "33 on `10 3:0 3:0` gives `6`"; "on `10 3:0 3:1` code 22"

@@ -3,7 +3,7 @@ use Rattle.std.specs.Prelude.{◌≡◌, ◌↔◌, ◌≢◌, List, ℕ, ◌+�
 use Rattle.term.specs.Trees.{Tree}
 use Rattle.types.specs.Sorts.{Sort, Context}
 use Rattle.declarations.specs.Declarations.{context_in}
-use Rattle.typing.specs.Answers.{typingOf, TypedTerm}
+use Rattle.typing.specs.Answers.{typing_of, TypedTerm}
 use Rattle.rules.specs.Steps.{Sides, step_of}
 use Rattle.lent.specs.declared.steps.Step.{Step}
 use Rattle.lent.specs.Lent.{Derivation, asked}
@@ -22,7 +22,7 @@ Entry = (ds ws : List ℕ) (n : ℕ) (t : Tree) (S : Sort) → TypedTerm ds ws n
 
 -- where typing refuses, the step is refused as typing does
 abbrev pub Refusals : Type 0
-Refusals = (ds ws : List ℕ) (n : ℕ) → (typingOf ds ws n).code ≢ 0 → (s : Step) → Refused ds ws n s
+Refusals = (ds ws : List ℕ) (n : ℕ) → (typing_of ds ws n).code ≢ 0 → (s : Step) → Refused ds ws n s
 
 -- 01: "one claim about the whole list, not one for each step. A list begins with a typed term, one that none of 7, 8, 10 and 11 refuses, in a slice of 4,096
 -- words with any words behind"; nor does 13: 02, CR 1, "13 is as 10". Demand 3: "any rules, places and indices, refused ones included"

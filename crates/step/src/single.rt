@@ -1,6 +1,6 @@
 // The single step, for a caller who lends declarations, a work slice and a length. Nothing is relied on.
 ghost use Rattle.std.specs.Prelude.{◌≡◌};
-ghost use Rattle.step.specs.Answers.{stepRefusal, answerTo, wordsLeft};
+ghost use Rattle.step.specs.Answers.{step_refusal, answer_to, words_left};
 
 use crate::stepping::step_on;
 use lent::steps::Step;
@@ -18,7 +18,7 @@ pub struct Answer {
 }
 
 fn refused_with(code: usize, at: usize) -> Answer
-    ensures { result ≡ stepRefusal code at }
+    ensures { result ≡ step_refusal code at }
 {
     Answer {
         code,
@@ -32,7 +32,7 @@ fn refused_with(code: usize, at: usize) -> Answer
 // Takes one step of the term in the first `n` words of `ws`. Code 1 leaves the slice as it is, 7 to 13 leave zeros; else the slice holds the term, or its
 // result where the code is 0, with zeros behind, whatever stood there before.
 pub fn take_step(ds: &[u16], ws: &mut [u16], n: usize, s: Step) -> Answer
-    ensures { (result ≡ answerTo ds.now ws.old n s) × (ws.new ≡ wordsLeft ds.now ws.old n s) }
+    ensures { (result ≡ answer_to ds.now ws.old n s) × (ws.new ≡ words_left ds.now ws.old n s) }
 {
     let typing = type_term(ds, ws, n);
     if typing.code == 1 {

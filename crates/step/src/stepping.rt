@@ -5,10 +5,10 @@ ghost use Rattle.term.specs.Trees.{words, replace};
 ghost use Rattle.term.specs.Parts.{part_depth};
 ghost use Rattle.term.specs.Terms.{level_at};
 ghost use Rattle.declarations.specs.Declarations.{context_in};
-ghost use Rattle.typing.specs.Answers.{typingOf};
+ghost use Rattle.typing.specs.Answers.{typing_of};
 ghost use Rattle.rules.specs.Steps.{limited, step_of};
 ghost use Rattle.lent.specs.Lent.{asked};
-ghost use Rattle.step.specs.Answers.{held, between, stepIn};
+ghost use Rattle.step.specs.Answers.{held, between, step_in};
 ghost use Rattle.step.specs.Code.Making.{Termed, Seated, Fresh, Made};
 
 use crate::rewriting::rewrite_part;
@@ -113,10 +113,10 @@ fn put(ws: &mut [u16], place: usize, src: &[u16], old: usize)
 
 // One step of the typed term in the first `n` words, which have zeros behind.
 pub fn step_on(ds: &[u16], ws: &mut [u16], n: usize, s: Step, out: &mut [u16]) -> Taken
-    requires { ((typingOf ds.now ws.old n).code ≡ 0) × (cleared ws.old n ≡ ws.old) × (length out.old ≡ 4096) }
-    ensures { (result.code ≡ (stepIn ds.now ws.old n s).code)
-        × (result.length ≡ length (words (stepIn ds.now ws.old n s).tree))
-        × (ws.new ≡ held (stepIn ds.now ws.old n s).tree) × (length out.new ≡ 4096) }
+    requires { ((typing_of ds.now ws.old n).code ≡ 0) × (cleared ws.old n ≡ ws.old) × (length out.old ≡ 4096) }
+    ensures { (result.code ≡ (step_in ds.now ws.old n s).code)
+        × (result.length ≡ length (words (step_in ds.now ws.old n s).tree))
+        × (ws.new ≡ held (step_in ds.now ws.old n s).tree) × (length out.new ≡ 4096) }
 {
     let result = make(ds, &ws[..n], s, out);
     if result.code != 0 {

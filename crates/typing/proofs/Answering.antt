@@ -20,7 +20,7 @@ use Rattle.term.proofs.TermTest.{term-tree}
 use Rattle.typing.specs.declared.sorts.Sorted as S
 use Rattle.typing.specs.declared.terms.Kind as K
 use Rattle.typing.specs.declared.terms.Typing as A
-use Rattle.typing.specs.Answers.{pad, typeRecord, refuse, typing, strayed, answer_of, typingOf}
+use Rattle.typing.specs.Answers.{pad, type_record, refuse, typing, strayed, answer_of, typing_of}
 use Rattle.declarations.specs.Declarations.{context_in, names_in, good_declarations}
 use Rattle.types.specs.Sorts.{Sort, index, basis, scalar, ket, bra, operator}
 use Rattle.types.specs.Rules.{◌⊢◌∶◌}
@@ -65,23 +65,23 @@ module _ {N : Names} {ws : List ℕ} {n : ℕ} (h : Here N ws n) where
 
 -- ---- the tests in their order: the first that fails decides
 module _ (ds ws : List ℕ) (n : ℕ) where
-  pub wrong_size : length ws ≢ max_words → typingOf ds ws n ≡ refuse 1 0
-  unfolding typingOf
+  pub wrong_size : length ws ≢ max_words → typing_of ds ws n ≡ refuse 1 0
+  unfolding typing_of
   wrong_size h = rw (ne_eqb _ _ h)
 
   module _ (size : length ws ≡ max_words) where
-    pub bad_declarations : good_declarations ds ≡ false → typingOf ds ws n ≡ refuse 7 0
-    unfolding typingOf
+    pub bad_declarations : good_declarations ds ≡ false → typing_of ds ws n ≡ refuse 7 0
+    unfolding typing_of
     bad_declarations h = rw (eq-eqb _ _ size, h)
 
     module _ (good : good_declarations ds ≡ true) where
-      pub no_term : is_term (names_in ds) ws n ≡ false → typingOf ds ws n ≡ refuse 8 0
-      unfolding typingOf
+      pub no_term : is_term (names_in ds) ws n ≡ false → typing_of ds ws n ≡ refuse 8 0
+      unfolding typing_of
       no_term h = rw (eq-eqb _ _ size, good, h)
 
       pub the_term : is_term (names_in ds) ws n ≡ true
-          → typingOf ds ws n ≡ strayed (stray_of 0 0 (tree_in (parse (take n ws)))) (answer_of n (part_depth (take n ws) 0) (type_of (context_in ds) 0 (tree_in (parse (take n ws)))))
-      unfolding typingOf
+          → typing_of ds ws n ≡ strayed (stray_of 0 0 (tree_in (parse (take n ws)))) (answer_of n (part_depth (take n ws) 0) (type_of (context_in ds) 0 (tree_in (parse (take n ws)))))
+      unfolding typing_of
       the_term h = rw (eq-eqb _ _ size, good, h)
 
 -- ---- the first stray part of a term, and that there is none where it has a sort
@@ -150,7 +150,7 @@ module _ (n d : ℕ) {k : ℕ} (s : S.Sorted) (st : List ℕ) (pre : Small s × 
   pub a_type : {kind : K.Kind} {rows columns : List ℕ} → 3 ≤ k → kind ≡ kind_of k s.left s.right → rows ≡ overlaid (replicate 63 0) (take s.left st)
       → columns ≡ overlaid (replicate 63 0) (take (s.left + s.right - s.left) (drop s.left st)) → (T : Sort) → shape_at st 0 s ≡ shape_of T
       → ◌≡◌ {A = A.Typing} (record { code = 0; side = 0; step = 0; at = 0; length = n; depth = d; of = record { kind = kind; rows = rows; columns = columns } }) (answer_of n d (typed T))
-  unfolding typing typeRecord
+  unfolding typing type_record
   a_type h f x y T is =
       let z : 0 + s.left ≡ s.left = omega arith in
       let c : s.class ≡ (shape_of T).class = ap (λ (x : Shape). x.class) is in

@@ -23,7 +23,7 @@ use Rattle.declarations.proofs.Entries.{well_formed}
 use Rattle.typing.specs.declared.strays.Stray as S
 use Rattle.typing.specs.declared.infer.Verdict as Answer
 use Rattle.typing.specs.declared.terms.Typing as A
-use Rattle.typing.specs.Answers.{refuse, strayed, answer_of, typingOf}
+use Rattle.typing.specs.Answers.{refuse, strayed, answer_of, typing_of}
 use Rattle.typebook.specs.Code.Shapes.{shape_of}
 use Rattle.typing.specs.Code.Shapes.{shape_at}
 use Rattle.typing.specs.Code.Chains.{budget_of, around_of}
@@ -34,8 +34,8 @@ use Rattle.typing.proofs.Answering.{here, here_part, here_shallow, sort-none}
 use Rattle.typing.proofs.Binding.{held_none}
 
 -- the answer for the first n words of a slice is that for those words
-pub within : (ds ws : List ℕ) (n : ℕ) → length ws ≡ max_words → good_declarations ds ≡ true → n ≤ length ws → typing_in ds (take n ws) ≡ typingOf ds ws n
-unfolding typing_in typingOf
+pub within : (ds ws : List ℕ) (n : ℕ) → length ws ≡ max_words → good_declarations ds ≡ true → n ≤ length ws → typing_in ds (take n ws) ≡ typing_of ds ws n
+unfolding typing_in typing_of
 within ds ws n size good inside = rw (eq-eqb _ _ size, good, term_in (names_in ds) ws n inside, length-take-le n ws inside)
 
 -- no sum is around a whole term

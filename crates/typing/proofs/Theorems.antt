@@ -14,7 +14,7 @@ use Rattle.term.specs.Trees.{Tree, none, ◌▹◌, words, depth}
 use Rattle.term.proofs.Parsing.{parse-tree}
 use Rattle.term.proofs.Theorems.{term_test}
 use Rattle.typing.specs.declared.terms.Typing as A
-use Rattle.typing.specs.Answers.{refuse, strayed, answer_of, typingOf, HeldTerm, TypedTerm, Verdict, wrong_size, bad_declarations, no_term, stray, no_sort, no_type, a_type}
+use Rattle.typing.specs.Answers.{refuse, strayed, answer_of, typing_of, HeldTerm, TypedTerm, Verdict, wrong_size, bad_declarations, no_term, stray, no_sort, no_type, a_type}
 use Rattle.declarations.specs.Declarations.{context_in, names_in, good_declarations}
 use Rattle.types.specs.Rules.{◌⊢◌∶◌}
 use Rattle.types.specs.Sorts.{Sort, index, basis, scalar, ket, bra, operator, IsType}
@@ -31,7 +31,7 @@ use Rattle.types.proofs.Sound.{sound}
 
 -- the answer on the words of a term that passes tests 1, 7 and 8
 answer_on : (ds ws : List ℕ) (n : ℕ) (t : Tree) → length ws ≡ max_words → good_declarations ds ≡ true → n ≤ length ws → words t ≡ take n ws → IsTerm (names_in ds) t
-    → typingOf ds ws n ≡ strayed (stray_of 0 0 t) (answer_of n (depth t) (type_of (context_in ds) 0 t))
+    → typing_of ds ws n ≡ strayed (stray_of 0 0 t) (answer_of n (depth t) (type_of (context_in ds) 0 t))
 unfolding part_depth first_depth tree_in
 answer_on ds ws n t size good inside is term =
     let p : parse (take n ws) ≡ t ▹ none = sym (ap parse is) ∙ parse-tree t term.formed in
@@ -65,11 +65,11 @@ complete_entry ds ws n t S h =
     ∙ rw (sort-none ds t h.good h.rules, complete (well_formed ds h.good) h.rules 0)
 
 module _ (ds ws : List ℕ) (n : ℕ) where
-  not-refused : (c at : ℕ) → typingOf ds ws n ≡ refuse c at → (typingOf ds ws n).code ≡ 0 → c ≡ 0
+  not-refused : (c at : ℕ) → typing_of ds ws n ≡ refuse c at → (typing_of ds ws n).code ≡ 0 → c ≡ 0
   unfolding refuse
   not-refused c at e h = sym (ap (λ (r : A.Typing). r.code) e) ∙ h
 
-  sound_by : (a b c : Bool) → eqb (length ws) max_words ≡ a → good_declarations ds ≡ b → is_term (names_in ds) ws n ≡ c → (typingOf ds ws n).code ≡ 0
+  sound_by : (a b c : Bool) → eqb (length ws) max_words ≡ a → good_declarations ds ≡ b → is_term (names_in ds) ws n ≡ c → (typing_of ds ws n).code ≡ 0
       → (t : Tree) × (S : Sort) × TypedTerm ds ws n t S
   sound_by false b c size good test e = absurd (omega (arith, not-refused 1 0 (W.wrong_size ds ws n (eqb-false _ _ size)) e))
   sound_by true false c size good test e = absurd (omega (arith, not-refused 7 0 (W.bad_declarations ds ws n (eqb-true _ _ size) good) e))
@@ -125,7 +125,7 @@ module _ (ds ws : List ℕ) (n : ℕ) where
   stray_by t h (some k) e = stray h (first-stray ds t e)
   stray_by t h nothing e = term_by t h (no_stray ds t e) (type_of (context_in ds) 0 t) refl
 
-  decided_by : (a b c : Bool) → eqb (length ws) max_words ≡ a → good_declarations ds ≡ b → is_term (names_in ds) ws n ≡ c → Verdict ds ws n (typingOf ds ws n)
+  decided_by : (a b c : Bool) → eqb (length ws) max_words ≡ a → good_declarations ds ≡ b → is_term (names_in ds) ws n ≡ c → Verdict ds ws n (typing_of ds ws n)
   decided_by false b c size good test = rw (W.wrong_size ds ws n (eqb-false _ _ size)) (wrong_size (eqb-false _ _ size))
   decided_by true false c size good test = rw (W.bad_declarations ds ws n (eqb-true _ _ size) good) (bad_declarations (eqb-true _ _ size) good)
   decided_by true true false size good test =

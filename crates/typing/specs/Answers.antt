@@ -18,29 +18,29 @@ use Rattle.types.specs.Sorts.{Sort, index, basis, scalar, ket, bra, operator, Is
 use Rattle.types.specs.TypeOf.{Inferred, typed, untyped, type_of}
 
 -- a kind by its number, with the lengths that it carries
-abbrev pub sizesOf : K.Kind → Z.Sizes
-sizesOf Kinds.Scalar = record { number = 0; rows = 0; columns = 0 }
-sizesOf (Kinds.Ket n) = record { number = 1; rows = n; columns = 0 }
-sizesOf (Kinds.Bra m) = record { number = 2; rows = 0; columns = m }
-sizesOf (Kinds.Operator n m) = record { number = 3; rows = n; columns = m }
+abbrev pub sizes_of : K.Kind → Z.Sizes
+sizes_of Kinds.Scalar = record { number = 0; rows = 0; columns = 0 }
+sizes_of (Kinds.Ket n) = record { number = 1; rows = n; columns = 0 }
+sizes_of (Kinds.Bra m) = record { number = 2; rows = 0; columns = m }
+sizes_of (Kinds.Operator n m) = record { number = 3; rows = n; columns = m }
 
 -- 01: "words of a type behind its indices are zero"
 unfoldable pub pad : List ℕ → List ℕ
 pad ws = take 63 (ws ++ replicate 63 0)
 
 -- 01: "A type is a record: its kind, which is scalar, ket, bra or operator and carries the index lengths, and the index words beside it"
-unfoldable pub typeRecord : K.Kind → List ℕ → List ℕ → T.TermType
-typeRecord k rows columns = record { kind = k; rows = pad rows; columns = pad columns }
+unfoldable pub type_record : K.Kind → List ℕ → List ℕ → T.TermType
+type_record k rows columns = record { kind = k; rows = pad rows; columns = pad columns }
 
 -- 01: "at every code from 1 to 19, a length or depth is 0 and a type is scalar", "A field that a code does not name is 0"
 unfoldable pub refuse : ℕ → ℕ → A.Typing
-unfolding typeRecord
-refuse code at = record { code = code; side = 0; step = 0; at = at; length = 0; depth = 0; of = typeRecord Kinds.Scalar [] [] }
+unfolding type_record
+refuse code at = record { code = code; side = 0; step = 0; at = at; length = 0; depth = 0; of = type_record Kinds.Scalar [] [] }
 
 -- a typed term of so many words and so deep
 unfoldable pub typing : ℕ → ℕ → K.Kind → List ℕ → List ℕ → A.Typing
-unfolding typeRecord
-typing n d k rows columns = record { code = 0; side = 0; step = 0; at = 0; length = n; depth = d; of = typeRecord k rows columns }
+unfolding type_record
+typing n d k rows columns = record { code = 0; side = 0; step = 0; at = 0; length = n; depth = d; of = type_record k rows columns }
 
 -- 01: "10 no type", "11 a side is an index or a basis"
 unfoldable pub answer_of : ℕ → ℕ → Inferred → A.Typing
@@ -60,9 +60,9 @@ strayed nothing a = a
 strayed (some k) a = refuse 13 k
 
 -- 01: "lent declarations, one work slice and a length. They test 1; 7 for bad declarations; 8, also for a length that is not the term's; 10; 11", with 13 before 10
-unfoldable pub typingOf : List ℕ → List ℕ → ℕ → A.Typing
+unfoldable pub typing_of : List ℕ → List ℕ → ℕ → A.Typing
 unfolding refuse strayed answer_of good_declarations is_term names_in part_depth stray_of type_of context_in tree_in
-typingOf ds ws n =
+typing_of ds ws n =
     cond (eqb (length ws) max_words)
     (cond (good_declarations ds)
     (cond (is_term (names_in ds) ws n)

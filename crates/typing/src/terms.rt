@@ -3,7 +3,7 @@ ghost use Rattle.std.specs.Prelude.{◌≡◌, true, ◌≤◌, length};
 ghost use Rattle.types.specs.Sorts.{Sort};
 ghost use Rattle.types.specs.TypeOf.{typed};
 ghost use Rattle.declarations.specs.Declarations.{context_in, good_declarations};
-ghost use Rattle.typing.specs.Answers.{sizesOf, refuse, answer_of, typingOf};
+ghost use Rattle.typing.specs.Answers.{sizes_of, refuse, answer_of, typing_of};
 ghost use Rattle.typebook.specs.Code.Shapes.{shape_of};
 ghost use Rattle.typing.specs.Code.Shapes.{shape_at, Small};
 ghost use Rattle.typing.specs.Code.Verdicts.{Found, typing_in, kind_of};
@@ -34,7 +34,7 @@ pub struct Sizes {
 }
 
 pub fn sizes_of(kind: Kind) -> Sizes
-    ensures { result ≡ sizesOf kind }
+    ensures { result ≡ sizes_of kind }
 {
     match kind {
         Kind::Scalar => Sizes {
@@ -194,7 +194,7 @@ fn typed_in(ds: &[u16], ws: &[u16]) -> Typing
 
 // The type of the term in the first `n` words of a work slice, under declarations. Nothing is relied on: the tests are 1, 7, 8, 13, 10 and 11.
 pub fn type_term(ds: &[u16], ws: &[u16], n: usize) -> Typing
-    ensures { result ≡ typingOf ds.now ws.now n }
+    ensures { result ≡ typing_of ds.now ws.now n }
 {
     if ws.len() != 4096 {
         return refused_with(1, 0);

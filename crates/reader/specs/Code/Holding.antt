@@ -12,7 +12,7 @@ use Rattle.reader.specs.declared.faults.Fault.{Fault}
 use Rattle.reader.specs.declared.walking.State.{State}
 use Rattle.reader.specs.declared.walking.Taken.{Taken}
 use Rattle.reader.specs.declared.files.Read.{Read}
-use Rattle.reader.specs.Answers.{readRefusal, answer_of}
+use Rattle.reader.specs.Answers.{read_refusal, answer_of}
 use Rattle.reader.specs.Code.Keys.{key_at}
 use Rattle.reader.specs.Code.Lines.{Answers, ordered}
 
@@ -63,13 +63,13 @@ LineRead l n s ds ls rs ms r es ks qs ns =
 
 -- what the test of the bytes tells: the answer where it is a fault, and else that they are good
 pub record BytesTold (bytes : Text) (r : Fault) : Type 0 where
-  pub refused : r.code ≢ 0 → readRefusal r.code r.at ≡ answer_of (R.read_of bytes)
+  pub refused : r.code ≢ 0 → read_refusal r.code r.at ≡ answer_of (R.read_of bytes)
   pub few : r.code ≡ 0 → length bytes ≤ max_bytes
   pub fine : r.code ≡ 0 → bad_line 1 false bytes ≡ 0
 
 -- the answer behind the last line, in a state
 unfoldable pub ended_in : State → ℕ → Read
-ended_in s n = cond (eqb s.stage 5) (record { code = 0; at = 0; left = s.left; right = s.right; steps = s.steps }) (readRefusal 4 n)
+ended_in s n = cond (eqb s.stage 5) (record { code = 0; at = 0; left = s.left; right = s.right; steps = s.steps }) (read_refusal 4 n)
 
 abbrev pub Sizes : List ℕ → List ℕ → List ℕ → List ℕ → Type 0
 Sizes ds ls rs ms = (length ds ≡ size) × (length ls ≡ max_words) × (length rs ≡ max_words) × (length ms ≡ steps_size)
