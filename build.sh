@@ -8,13 +8,6 @@
 set -u
 root=$(cd "$(dirname "$0")" && pwd) || exit 2
 
-# made NAME COMMAND.. : has rt do that in the crate's folder, with nothing on standard input.
-made() {
-    name=$1
-    shift
-    (cd "$root/crates/$name" && rt "$@" < /dev/null) >&2
-}
-
 # put FROM FOLDER: a fresh copy under target/, so that its date says when it was proved.
 put() {
     mkdir -p "$root/target/$2" && cp "$1" "$root/target/$2/"
@@ -30,9 +23,15 @@ if ! command -v rt > /dev/null; then
 fi
 for crate; do
     case $crate in
-        library) made library lib && put "$root/crates/library/out/liblibrary.a" staticlib || exit 1 ;;
-        # A program is run once, on an empty input, which proves and builds it.
-        replay | cases) made "$crate" run && put "$root/crates/$crate/out/$crate" bin || exit 1 ;;
+        library)
+            (cd "$root/crates/library" && rt lib) >&2 || exit 1
+            put "$root/crates/library/out/liblibrary.a" staticlib || exit 1
+            ;;
+        # A program is run once, on an empty input, which proves and builds it; what it answers to that is dropped.
+        replay | cases)
+            (cd "$root/crates/$crate" && rt run < /dev/null > /dev/null) || exit 1
+            put "$root/crates/$crate/out/$crate" bin || exit 1
+            ;;
         *)
             echo "build.sh: $crate makes no program and no library: replay, cases or library" >&2
             exit 2

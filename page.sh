@@ -13,7 +13,7 @@ archive=$root/target/staticlib/liblibrary.a
 
 # Whether the library is missing, or older than a source.
 is_stale() {
-    [ ! -f "$archive" ] || [ -n "$(find "$root/crates" "$root/crates.txt" -newer "$archive" | head -n 1)" ]
+    [ ! -f "$archive" ] || [ -n "$(find "$root/crates" "$root/crates.txt" -name out -prune -o -type f -newer "$archive" -print | head -n 1)" ]
 }
 
 # Proves the library and builds it.

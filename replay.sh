@@ -13,7 +13,7 @@ program=$root/target/bin/replay
 
 # Whether the program is missing, or older than a source.
 is_stale() {
-    [ ! -x "$program" ] || [ -n "$(find "$root/crates" "$root/crates.txt" -newer "$program" | head -n 1)" ]
+    [ ! -x "$program" ] || [ -n "$(find "$root/crates" "$root/crates.txt" -name out -prune -o -type f -newer "$program" -print | head -n 1)" ]
 }
 
 # Proves the replay and builds it; what rt says goes to standard error.

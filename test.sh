@@ -1,5 +1,5 @@
 #!/usr/bin/env bash
-# All tests, from nothing: the checker's, every proof, every edit that must be refused, every program against its stored output, then the
+# All tests: the checker's, every proof (what rt kept on this machine of the same files stands), every edit that must be refused, every program against its stored output, then the
 # proved typing, the proved step and its preview, the proved run and the proved replay against the checker's on random cases; the examples and their pages; the library from C
 # and from Rust; a page in a browser, where one is installed; and the library on random files beside the checker in one process.
 set -euo pipefail
