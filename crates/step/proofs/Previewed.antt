@@ -79,6 +79,10 @@ module _ (ds ws : List ℕ) (n : ℕ) (s : Step) (refused : (typing_of ds ws n).
       let after = nothing-after in
       e ∙ refused-is (decided ds ws n) refused ∙ rw (after.1, after.2, (refusals ds ws n refused s).answer)
 
+-- The same of an answer that is refused itself.
+pub told_refused : (ds ws : List ℕ) (n : ℕ) (s : Step) (a : Typing) → a ≡ typing_of ds ws n → a.code ≢ 0 → a ≡ preview_of ds ws n s
+told_refused ds ws n s a e h = preview_refused ds ws n s (λ z. h (ap (λ (t : Typing). t.code) e ∙ z)) e
+
 -- ---- a step on a typed term
 type-alike : (n d m e : ℕ) (S : Sort) → (answer_of n d (typed S)).of ≡ (answer_of m e (typed S)).of
 unfolding answer_of refuse typing

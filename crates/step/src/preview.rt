@@ -55,6 +55,7 @@ fn showing(code: usize, place: usize, length: usize, depth: usize, of: TermType)
 }
 
 // Shows one step of the term in the first `n` words of `ws`: every field is what taking the step on a copy answers, or what typing then tells of the copy.
+#[tactic(auto, using(crate::proofs::Previewed::told_refused))]
 pub fn preview_step(ds: &[u16], ws: &[u16], n: usize, s: Step) -> Typing
     ensures { result ≡ preview_of ds.now ws.now n s }
 {

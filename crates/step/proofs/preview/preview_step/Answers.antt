@@ -5,38 +5,35 @@ use lib.Seq.{length-take-le}
 use Rattle.typing.specs.declared.terms.Typing.{Typing}
 use Rattle.typing.specs.Answers.{typing_of}
 use Rattle.step.proofs.Taking.{slice-size, inside-slice, termed, room, room_out, made_for}
-use Rattle.step.proofs.Previewed.{preview_refused, shows_refused, shows_kept, shows_done}
+use Rattle.step.proofs.Previewed.{shows_refused, shows_kept, shows_done}
 use Rattle.step.proofs.preview.preview_step.Goals as goal
-
-pub returns-then-typing-ne0 : goal.returns-then-typing-ne0
-returns-then-typing-ne0 c = let e = c.type_term-typing.ensures in preview_refused _ _ _ _ (λ z. c.if-typing-ne0.true (ap (λ (t : Typing). t.code) e ∙ z)) e
 
 pub slice_bounds-make-end : goal.slice_bounds-make-end
 slice_bounds-make-end c =
-    let accepted : let a = c.args in (typing_of a.ds.now a.ws.now a.n).code ≡ 0 = sym (ap (λ (t : Typing). t.code) c.type_term-typing.ensures) ∙ c.if-typing-ne0.false in
+    let accepted : let a = c.args in (typing_of a.ds.now a.ws.now a.n).code ≡ 0 = omega (arith, ap (λ (t : Typing). t.code) c.type_term-typing.ensures) in
     sym (length-take-le _ _ (inside-slice _ _ _ accepted))
 
 pub make-made-requires : goal.make-made-requires
 make-made-requires c =
-    let accepted : let a = c.args in (typing_of a.ds.now a.ws.now a.n).code ≡ 0 = sym (ap (λ (t : Typing). t.code) c.type_term-typing.ensures) ∙ c.if-typing-ne0.false in
+    let accepted : let a = c.args in (typing_of a.ds.now a.ws.now a.n).code ≡ 0 = omega (arith, ap (λ (t : Typing). t.code) c.type_term-typing.ensures) in
     (termed _ _ _ accepted, refl)
 
 pub returns-then-made-ne0 : goal.returns-then-made-ne0
 returns-then-made-ne0 c =
-    let accepted : let a = c.args in (typing_of a.ds.now a.ws.now a.n).code ≡ 0 = sym (ap (λ (t : Typing). t.code) c.type_term-typing.ensures) ∙ c.if-typing-ne0.false in
+    let accepted : let a = c.args in (typing_of a.ds.now a.ws.now a.n).code ≡ 0 = omega (arith, ap (λ (t : Typing). t.code) c.type_term-typing.ensures) in
     let a = accepted in
     let e = c.type_term-typing.ensures in
     shows_refused _ _ _ a _ e (made_for _ _ _ a _ _ _ c.make-made.ensures) c.if-made-ne0.true c.showing.ensures
 
 pub overflow_add-place : goal.overflow_add-place
 overflow_add-place c =
-    let accepted : let a = c.args in (typing_of a.ds.now a.ws.now a.n).code ≡ 0 = sym (ap (λ (t : Typing). t.code) c.type_term-typing.ensures) ∙ c.if-typing-ne0.false in
+    let accepted : let a = c.args in (typing_of a.ds.now a.ws.now a.n).code ≡ 0 = omega (arith, ap (λ (t : Typing). t.code) c.type_term-typing.ensures) in
     let a = accepted in
     omega (arith, room _ _ _ a _ _ _ (made_for _ _ _ a _ _ _ c.make-made.ensures) c.if-made-ne0.false, slice-size _ _ _ a)
 
 pub returns-then-keeps_depth : goal.returns-then-keeps_depth
 returns-then-keeps_depth c =
-    let accepted : let a = c.args in (typing_of a.ds.now a.ws.now a.n).code ≡ 0 = sym (ap (λ (t : Typing). t.code) c.type_term-typing.ensures) ∙ c.if-typing-ne0.false in
+    let accepted : let a = c.args in (typing_of a.ds.now a.ws.now a.n).code ≡ 0 = omega (arith, ap (λ (t : Typing). t.code) c.type_term-typing.ensures) in
     let a = accepted in
     let e = c.type_term-typing.ensures in
     shows_kept _ _ _ a _ e (made_for _ _ _ a _ _ _ c.make-made.ensures) c.if-made-ne0.false
@@ -44,37 +41,37 @@ returns-then-keeps_depth c =
 
 pub slice_bounds-depth_of_both-end : goal.slice_bounds-depth_of_both-end
 slice_bounds-depth_of_both-end c =
-    let accepted : let a = c.args in (typing_of a.ds.now a.ws.now a.n).code ≡ 0 = sym (ap (λ (t : Typing). t.code) c.type_term-typing.ensures) ∙ c.if-typing-ne0.false in
+    let accepted : let a = c.args in (typing_of a.ds.now a.ws.now a.n).code ≡ 0 = omega (arith, ap (λ (t : Typing). t.code) c.type_term-typing.ensures) in
     let a = accepted in
     sym (length-take-le _ _ (omega (arith, room _ _ _ a _ _ _ (made_for _ _ _ a _ _ _ c.make-made.ensures) c.if-made-ne0.false)))
 
 pub slice_bounds-out-end : goal.slice_bounds-out-end
 slice_bounds-out-end c =
-    let accepted : let a = c.args in (typing_of a.ds.now a.ws.now a.n).code ≡ 0 = sym (ap (λ (t : Typing). t.code) c.type_term-typing.ensures) ∙ c.if-typing-ne0.false in
+    let accepted : let a = c.args in (typing_of a.ds.now a.ws.now a.n).code ≡ 0 = omega (arith, ap (λ (t : Typing). t.code) c.type_term-typing.ensures) in
     let a = accepted in
     room_out _ _ _ a _ _ _ (made_for _ _ _ a _ _ _ c.make-made.ensures) c.if-made-ne0.false
 
 pub slice_bounds-depth_of_both-end-2 : goal.slice_bounds-depth_of_both-end-2
 slice_bounds-depth_of_both-end-2 c =
-    let accepted : let a = c.args in (typing_of a.ds.now a.ws.now a.n).code ≡ 0 = sym (ap (λ (t : Typing). t.code) c.type_term-typing.ensures) ∙ c.if-typing-ne0.false in
+    let accepted : let a = c.args in (typing_of a.ds.now a.ws.now a.n).code ≡ 0 = omega (arith, ap (λ (t : Typing). t.code) c.type_term-typing.ensures) in
     sym (length-take-le _ _ (room_out _ _ _ accepted _ _ _ (made_for _ _ _ accepted _ _ _ c.make-made.ensures) c.if-made-ne0.false))
 
 pub depth_of_both-depth-requires : goal.depth_of_both-depth-requires
 depth_of_both-depth-requires c =
-    let accepted : let a = c.args in (typing_of a.ds.now a.ws.now a.n).code ≡ 0 = sym (ap (λ (t : Typing). t.code) c.type_term-typing.ensures) ∙ c.if-typing-ne0.false in
+    let accepted : let a = c.args in (typing_of a.ds.now a.ws.now a.n).code ≡ 0 = omega (arith, ap (λ (t : Typing). t.code) c.type_term-typing.ensures) in
     let a = accepted in
     let r = room _ _ _ a _ _ _ (made_for _ _ _ a _ _ _ c.make-made.ensures) c.if-made-ne0.false in
     rw (length-take-le _ _ (room_out _ _ _ a _ _ _ (made_for _ _ _ a _ _ _ c.make-made.ensures) c.if-made-ne0.false), length-take-le c.args.s.place c.args.ws.now (omega (arith, r))) (omega (arith, r, slice-size _ _ _ a))
 
 pub overflow_add-place-2 : goal.overflow_add-place-2
 overflow_add-place-2 c =
-    let accepted : let a = c.args in (typing_of a.ds.now a.ws.now a.n).code ≡ 0 = sym (ap (λ (t : Typing). t.code) c.type_term-typing.ensures) ∙ c.if-typing-ne0.false in
+    let accepted : let a = c.args in (typing_of a.ds.now a.ws.now a.n).code ≡ 0 = omega (arith, ap (λ (t : Typing). t.code) c.type_term-typing.ensures) in
     let a = accepted in
     omega (arith, room _ _ _ a _ _ _ (made_for _ _ _ a _ _ _ c.make-made.ensures) c.if-made-ne0.false, slice-size _ _ _ a)
 
 pub returns : goal.returns
 returns c =
-    let accepted : let a = c.args in (typing_of a.ds.now a.ws.now a.n).code ≡ 0 = sym (ap (λ (t : Typing). t.code) c.type_term-typing.ensures) ∙ c.if-typing-ne0.false in
+    let accepted : let a = c.args in (typing_of a.ds.now a.ws.now a.n).code ≡ 0 = omega (arith, ap (λ (t : Typing). t.code) c.type_term-typing.ensures) in
     let a = accepted in
     let e = c.type_term-typing.ensures in
     shows_done _ _ _ a _ e (made_for _ _ _ a _ _ _ c.make-made.ensures) c.if-made-ne0.false

@@ -22,25 +22,25 @@ returns-then-result-ne0 c =
 pub slice_bounds-put-end : goal.slice_bounds-put-end
 slice_bounds-put-end c =
     let a = c.requires.0 in
-    room_out _ _ _ a _ _ _ (made_for _ _ _ a _ _ _ c.make-result.ensures) c.if-result-ne0.false
+    room_out _ _ _ a _ _ _ (made_for _ _ _ a _ _ _ c.make-result.ensures) (omega arith)
 
 pub slice_bounds-put-end-2 : goal.slice_bounds-put-end-2
 slice_bounds-put-end-2 c =
     let a = c.requires.0 in
-    sym (length-take-le _ _ (room_out _ _ _ a _ _ _ (made_for _ _ _ a _ _ _ c.make-result.ensures) c.if-result-ne0.false))
+    sym (length-take-le _ _ (room_out _ _ _ a _ _ _ (made_for _ _ _ a _ _ _ c.make-result.ensures) (omega arith)))
 
 pub put-requires : goal.put-requires
 put-requires c =
     let pre = c.requires in
-    let l = room _ _ _ pre.0 _ _ _ (made_for _ _ _ pre.0 _ _ _ c.make-result.ensures) c.if-result-ne0.false in
-    (rw (length-take-le _ _ (room_out _ _ _ pre.0 _ _ _ (made_for _ _ _ pre.0 _ _ _ c.make-result.ensures) c.if-result-ne0.false)) l, inside-slice _ _ _ pre.0, pre.1)
+    let l = room _ _ _ pre.0 _ _ _ (made_for _ _ _ pre.0 _ _ _ c.make-result.ensures) (omega arith) in
+    (rw (length-take-le _ _ (room_out _ _ _ pre.0 _ _ _ (made_for _ _ _ pre.0 _ _ _ c.make-result.ensures) (omega arith))) l, inside-slice _ _ _ pre.0, pre.1)
 
 pub overflow_add-result : goal.overflow_add-result
 overflow_add-result c =
     let a = c.requires.0 in
-    omega (arith, room _ _ _ a _ _ _ (made_for _ _ _ a _ _ _ c.make-result.ensures) c.if-result-ne0.false, slice-size _ _ _ a)
+    omega (arith, room _ _ _ a _ _ _ (made_for _ _ _ a _ _ _ c.make-result.ensures) (omega arith), slice-size _ _ _ a)
 
 pub returns : goal.returns
 returns c =
     let a = c.requires.0 in
-    does _ _ _ a _ _ _ _ (made_for _ _ _ a _ _ _ c.make-result.ensures) c.if-result-ne0.false c.put.ensures
+    does _ _ _ a _ _ _ _ (made_for _ _ _ a _ _ _ c.make-result.ensures) (omega arith) c.put.ensures
