@@ -4,7 +4,7 @@ use mathlib.Core.Bool.{true, cond}
 use mathlib.Core.Logic.{◌≢◌}
 use Prim.Native.Nat.{ℕ, zero, suc, ◌+◌, ◌-◌, ◌*◌, ◌/◌, ◌%◌, ◌^◌, ◌≤◌, ◌<◌}
 use native.Mathlib.Omega.{arith}
-use borrow.Author.Tests.{eqb-true}
+use borrow.Author.Tests.{eq-eqb, eqb-true}
 use lib.Dec.{T, eqb, leb→le, eqb-suc-zero}
 use lib.ListN.{length, get_or, get_or-eq_default}
 use Rattle.words.specs.Listed.{all_up_to}
@@ -95,6 +95,13 @@ arity_fixed zero a h = absurd (omega arith)
 arity_fixed (suc zero) a h = absurd (omega arith)
 arity_fixed (suc (suc zero)) a h = absurd (omega arith)
 arity_fixed (suc (suc (suc n))) a h = let e : suc (suc (suc n)) - 3 ≡ n = omega arith in rw e
+
+-- a low byte of 0 is no number of children, and what a head of a fixed number has
+pub counted_none : (w : ℕ) → line_at (w / 256) / 4096 ≡ 2 → w % 256 ≡ 0 → arity_of w ≡ Unknown
+counted_none w f z = arity_form w _ 2 refl f ∙ rw (eq-eqb (w % 256) 0 z)
+
+pub fixed_none : (w : ℕ) → 3 ≤ line_at (w / 256) / 4096 → w % 256 ≡ 0 → arity_of w ≡ Children (line_at (w / 256) / 4096 - 3)
+fixed_none w f z = arity_form w _ _ refl refl ∙ arity_fixed _ _ f ∙ rw (eq-eqb (w % 256) 0 z)
 
 pub result-line : (h r : ℕ) → r ≡ line_at h → class_of (r / 256 % 16) ≡ result_of h
 unfolding result_of line_at

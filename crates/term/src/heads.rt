@@ -114,6 +114,7 @@ fn form_of(head: usize) -> usize
 }
 
 // How many children the word wants.
+#[tactic(auto, using(crate::proofs::Lines::counted_none, crate::proofs::Lines::fixed_none))]
 pub fn arity_of(word: u16) -> Arity
     ensures { result ≡ arity_of word }
 {
