@@ -7,7 +7,7 @@ use mathlib.Core.Option.{Option, some}
 use Prim.Native.Nat.{ℕ, zero, suc, ◌+◌, ◌/◌, ◌%◌, ◌≤◌, ◌<◌}
 use native.Mathlib.Numerals.{add-one}
 use native.Mathlib.Omega.{arith}
-use borrow.Author.Tests.{ne_eqb, leb-true, eqb-true}
+use borrow.Author.Tests.{lt-leb, ne_eqb, leb-true, eqb-true}
 use lib.Dec.{eqb}
 use lib.ListN.{length, take, get_or, set, length-append, length-set}
 use lib.Seq.{take-suc-set}
@@ -22,6 +22,11 @@ use Rattle.typing.specs.Code.Shapes.{shape_at, run, run_at, Inside, Small, Ready
 use Rattle.typebook.specs.Code.Lines.{rule_at, piece_of, pair_of, side_of, short_both, fitted, met, class_by, shaped, by_line, children_of}
 use Rattle.typing.specs.Code.Conclude.{place_of, side_size, product, left_at, right_at, rows_of, columns_of, plan_of, standing, sides_of, Laying, Concludes}
 use Rattle.typing.proofs.Lying.{not-both, run_length, run-both, above_refl, above-laid, shape-laid, laid_same}
+
+-- ---- a product whose first index is too long
+pub too_long : (p : Bool) (n m : ℕ) → p ≡ true → 63 < n → short_both p n m ≡ false
+unfolding short_both
+too_long p n m e h = rw (e, lt-leb n 63 h)
 
 -- ---- where an index stands by its digit
 pub no_piece : {A : Type 0} (d a b c e : A) (k : ℕ) → k ≢ 1 → k ≢ 2 → k ≢ 3 → k ≢ 4 → get_or (d ∷ a ∷ b ∷ c ∷ e ∷ []) k d ≡ d

