@@ -49,6 +49,9 @@ one_index N [] e = absurd (omega arith)
 one_index N (w ∷ []) e = one_word N w
 one_index N (v ∷ w ∷ ws) e = absurd (omega arith)
 
+pub plain_index : (N : ℕ) (ws : List ℕ) → length ws ≡ 1 → get_or ws 0 0 ≢ 512 → is_index N ws ≡ index_word N (get_or ws 0 0)
+plain_index N ws e h = one_index N ws e ∙ rw (ne_eqb (get_or ws 0 0) 512 h)
+
 -- ---- what the tests of an index and of a variable tell
 all_three : (a b c : Bool) → (a && (b && c)) ≡ true → (a ≡ true) × (b ≡ true) × (c ≡ true)
 all_three a b c h =

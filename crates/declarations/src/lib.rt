@@ -17,6 +17,7 @@ use words::{same, word_at};
 pub const SIZE: usize = 6179;
 
 // Whether all words are exactly one index over so many types. Most are one word, which is not walked.
+#[tactic(auto, using(crate::proofs::Entries::plain_index))]
 pub fn is_index(types: usize, ws: &[u16]) -> bool
     ensures { result ≡ is_index types ws.now }
 {

@@ -13,10 +13,7 @@ unfolding is_index
 returns-then-ws-eq0 c = rw c.if-ws-eq0.true
 
 pub returns-then-ws-eq-INDEX_PRODUCT : goal.returns-then-ws-eq-INDEX_PRODUCT
-returns-then-ws-eq-INDEX_PRODUCT c = sym (one_index _ _ c.if-ws-eq1.true ∙ rw (eq-eqb _ _ c.if-ws-eq-INDEX_PRODUCT.true))
-
-pub returns-then-ws-eq1 : goal.returns-then-ws-eq1
-returns-then-ws-eq1 c = c.is_index_word.ensures ∙ sym (one_index _ _ c.if-ws-eq1.true ∙ rw (ne_eqb _ _ c.if-ws-eq-INDEX_PRODUCT.false))
+returns-then-ws-eq-INDEX_PRODUCT c = sym (one_index _ _ (omega arith) ∙ rw (eq-eqb _ _ c.if-ws-eq-INDEX_PRODUCT.true))
 
 pub returns-then-ws-gt63 : goal.returns-then-ws-gt63
 unfolding is_index
