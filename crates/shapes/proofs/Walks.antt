@@ -126,3 +126,16 @@ module _ {ws : List ℕ} {at a i parts left word : ℕ} {arity : Arity} (x : Tur
 
         pub walk_body : left ≢ 0 → Walking ws at a (i - 1) 0 (left - 1)
         walk_body z = let b = below_one in record { few = let m = x.more in omega (arith, x.walking.few); is = rw (b.2 ∙ eq-eqb _ 27 sum, ne_eqb left 0 z) at b.1 }
+
+-- the same of a head above by how many children it has
+abbrev pub wanted : Arity → ℕ
+wanted (Children n) = n
+wanted Unknown = 0
+
+passed_by : (ws : List ℕ) (i k parts left : ℕ) (arity : Arity) → i ≡ suc k → arity ≡ arity_of (get_or ws k 0) → parts < wanted arity → parts ≢ 1 → back ws i parts left ≡ back ws k 0 left
+unfolding back step_back
+passed_by ws i k parts left (Children n) z e h g = let l = read_children (get_or ws k 0) n (sym e) in rw z (rw (l.1, lt-ltb parts n h, ne_eqb parts 1 g))
+passed_by ws i k parts left Unknown z e h g = absurd (omega arith)
+
+pub passed : (ws : List ℕ) (i parts left : ℕ) → 0 < i → parts < wanted (arity_of (get_or ws (i - 1) 0)) → parts ≢ 1 → back ws i parts left ≡ back ws (i - 1) 0 left
+passed ws i parts left m h k = passed_by ws i (i - 1) parts left (arity_of (get_or ws (i - 1) 0)) (omega arith) refl h k

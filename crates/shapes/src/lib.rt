@@ -129,6 +129,7 @@ struct Walked {
 
 // The sum that binds the a-th basis around a place. One walk back from the place: `parts` whole parts stand between here and the nearest head above, and `left` sums are still to be passed in
 // whose bodies the place is. A sum has the place in its body where one part, its index, stands between.
+#[tactic(auto, using(crate::proofs::Walks::passed))]
 fn binder_of(ws: &[u16], at: usize, a: usize) -> Walked
     ensures { result ≡ walked (back ws.now at 0 a) }
 {
