@@ -8,6 +8,7 @@ use native.Mathlib.Omega.{arith}
 use borrow.Author.Tests.{le-leb, lt-leb, leb-true}
 use lib.Dec.{leb}
 use lib.ListN.{length}
+use Rattle.text.specs.declared.numbers.Number.{Number}
 use Rattle.text.specs.declared.numbers.Number.TheVariants.{Value, Malformed}
 use Rattle.text.specs.declared.tokens.Part.TheVariants as P
 use Rattle.text.specs.declared.tokens.Token.TheVariants as T
@@ -56,6 +57,19 @@ module _ (limit : ℕ) (o : Option ℕ) where
       go : (p : Option ℕ) → limited_to limit p ≡ some n → (n ≤ limit) × (p ≡ some n)
       go none e = absurd (let z : ◌≡◌ {A = ℕ} 0 1 = cc in omega arith)
       go (some m) e = by m (leb m limit) refl e
+
+-- ---- the value of an answer, and a part past its limit
+abbrev pub value_of : Number → ℕ
+value_of Malformed = 0
+value_of (Value v) = v
+
+past_by : (o : Option ℕ) (r : Number) → told o ≡ r → 255 < value_of r → told_part (limited_to 255 o) ≡ P.Malformed
+unfolding told_part
+past_by o (Value v) e h = rw (over_limit 255 o e (omega arith) h)
+past_by o Malformed e h = absurd (omega arith)
+
+pub past_255 : (o : Option ℕ) → 255 < value_of (told o) → told_part (limited_to 255 o) ≡ P.Malformed
+past_255 o h = past_by o (told o) refl h
 
 -- ---- tokens
 pub no_part : (o : Option ℕ) → told_part o ≡ P.Malformed → o ≡ none

@@ -39,6 +39,7 @@ enum Part {
     Malformed,
 }
 
+#[tactic(auto, using(crate::proofs::Told::past_255))]
 fn read_part(text: &[u8]) -> Part
     ensures { result ≡ told_part (at_most 255 text.now) }
 {
