@@ -75,7 +75,7 @@ overflow_add-head-2 c =
     } in
     let there : c.child_under-c.result.there ≡ true = (not-false _ c.if-not-c.false) in
     let low = low_bytes merging there in
-    omega (arith, c.if-head-more-gt256.false, c.shared_slice_known-2-1.given 0)
+    omega (arith, c.shared_slice_known-2-1.given 0)
 
 pub overflow_add-start : goal.overflow_add-start
 overflow_add-start c =
@@ -108,4 +108,4 @@ returns c =
     λ Γ.
     let m = merging in
     let t = there in
-    writes _ _ (merges-child m t Γ) (merged_few m t c.if-head-more-gt256.false) (added_as (merged_words m t) c.append_without-done.ensures)
+    writes _ _ (merges-child m t Γ) (merged_few m t (omega arith)) (added_as (merged_words m t) c.append_without-done.ensures)

@@ -27,4 +27,4 @@ returns c = λ l d P N Γ.
     let w = c.requires in
     let e = c.child_under-c.ensures in
     let t = (not-false _ c.if-not-c.false) in
-    writes _ _ (removes-child Γ P N w e t c.if-head-lt2.false) (removed_few Γ P N w e t) (added_as (removed_words Γ P N w e t) c.append_without-done.ensures)
+    writes _ _ (removes-child Γ P N w e t (omega arith)) (removed_few Γ P N w e t) (added_as (removed_words Γ P N w e t) c.append_without-done.ensures)
