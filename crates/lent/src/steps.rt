@@ -67,6 +67,7 @@ fn are_sided(steps: &[u16], n: usize) -> bool
 }
 
 // What is wrong with the first `n` of some lent steps: 6 for more than 1,000, 9 where they do not fit, 5 for a side that is neither; or 0.
+#[tactic(auto, using(crate::proofs::Lending::too_many))]
 pub fn steps_fault(steps: &[u16], n: usize) -> usize
     ensures { result ≡ steps_fault steps.now n }
 {

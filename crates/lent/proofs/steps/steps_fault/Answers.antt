@@ -1,11 +1,8 @@
 -- The tests in their order.
 use mathlib.Core.Path.{sym, ◌∙◌}
 use native.Mathlib.Omega.{arith}
-use Rattle.lent.proofs.Lending.{too_many, too_short, sides-told}
+use Rattle.lent.proofs.Lending.{too_short, sides-told}
 use Rattle.lent.proofs.steps.steps_fault.Goals as goal
-
-pub returns-then-n-gt-MOST_STEPS : goal.returns-then-n-gt-MOST_STEPS
-returns-then-n-gt-MOST_STEPS c = sym (too_many _ _ c.if-n-gt-MOST_STEPS.true)
 
 pub returns-then-steps-n : goal.returns-then-steps-n
 returns-then-steps-n c = sym (too_short _ _ (omega arith) c.if-steps-n.true)
