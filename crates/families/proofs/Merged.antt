@@ -1,6 +1,6 @@
 -- Merging child i into its parent: what `rewrite` answers, by the tests of the code.
 use mathlib.Core.Path.{◌≡◌, refl, sym, ◌∙◌}
-use mathlib.Core.Bool.{true, false}
+use mathlib.Core.Bool.{true, false, cond}
 use mathlib.Core.List.{List, ◌∷◌, ◌++◌}
 use mathlib.Core.Option.{some, none as refused}
 use Prim.Native.Nat.{ℕ, ◌+◌, ◌-◌, ◌/◌, ◌%◌, ◌≤◌, ◌<◌}
@@ -17,14 +17,16 @@ use Rattle.rules.specs.Rewrite.{merge_at, rewrite}
 use Rattle.rules.specs.Steps.{few}
 use Rattle.rules.proofs.Known.{is_head_lem}
 use Rattle.rules.proofs.Formed.{formed-few*}
-use Rattle.families.specs.Code.Children.{Under}
+use Rattle.families.specs.Code.Children.{Under, fits, child_in, no_child}
 use Rattle.families.specs.declared.children.Child.{Child}
+use Rattle.families.specs.Writing.{Writes}
 use Rattle.families.specs.Code.Families.{chain_word, Named}
 use Rattle.families.proofs.Split.{root, first_word, Split, child-bounds, before-run, inside-child, before-formed, child-formed, after-formed}
 use Rattle.rules.proofs.Decided.{chain-nameless}
 use Rattle.families.proofs.Heads.{head_number_lem, chain_of, chain-word}
 use Rattle.families.proofs.Tested.{root_chain, parent_is_chain, chain_parent, chain-child, siblings_few, Fit, found, under, none-under}
 use Rattle.families.proofs.Few.{few*-⧺, formed-count, few-node, many-node}
+use Rattle.families.proofs.Written.{exceeds}
 
 -- ---- the part is no chain
 pub merges_other : (Γ : Context) {ws : List ℕ} (i : ℕ) (w : Whole ws) → chain_word (get_or ws 0 0) ≡ false → rewrite Γ merging i 0 (tree_in (parse ws)) ≡ refused
@@ -106,3 +108,12 @@ module _ {ws : List ℕ} {i : ℕ} {r : Child} (m : Merging ws i r) where
         let p = chain_parent s chain u.parent in
         let more : get_or ws 0 0 - 1 + get_or ws r.start 0 % 256 ≡ word l (count all) = omega (arith, chain-word chain (count all), low_bytes, merged_count) in
         rw (before-run s, inside-child s, words*-⧺ s.before, words*-⧺ s.below, more)
+
+-- the refusal of too many, by what the code is told of the child
+pub too_many : (Γ : Context) (ws out : List ℕ) (i : ℕ) → Whole ws → chain_word (get_or ws 0 0) ≡ true
+    → let k = get_or ws 0 0 / 256 in
+    let r = cond (fits ws k k (child_in ws i)) (child_in ws i) no_child in
+    r.there ≡ true → 256 < get_or ws 0 0 % 256 + get_or ws r.start 0 % 256
+    → Writes (rewrite Γ merging i 0 (tree_in (parse ws))) out out (record { code = 23; end = 0 })
+too_many Γ ws out i w e t h =
+    let m : Merging ws i _ = record { whole = w; chained = e; under = record { is = refl } } in exceeds _ _ (merges-child m t Γ) (merged_many m t h)

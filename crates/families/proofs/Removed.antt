@@ -1,6 +1,6 @@
 -- Removing child i: what `rewrite` answers, by the tests of the code.
 use mathlib.Core.Path.{◌≡◌, refl}
-use mathlib.Core.Bool.{true, false, and-false}
+use mathlib.Core.Bool.{true, false, cond, and-false}
 use mathlib.Core.List.{List, ◌∷◌, ◌++◌}
 use mathlib.Core.Option.{some, none as refused}
 use Prim.Native.Nat.{ℕ, ◌+◌, ◌-◌, ◌*◌, ◌%◌, ◌≤◌, ◌<◌}
@@ -17,14 +17,16 @@ use Rattle.rules.specs.Rewrite.{remove_at, rewrite}
 use Rattle.rules.specs.Steps.{few}
 use Rattle.rules.proofs.Known.{is_head_lem}
 use Rattle.rules.proofs.Formed.{formed-few*}
-use Rattle.families.specs.Code.Children.{Under}
+use Rattle.families.specs.Code.Children.{Under, fits, child_in, no_child}
 use Rattle.families.specs.declared.children.Child.{Child}
 use Rattle.rulebook.specs.Code.Rows.{head_number}
+use Rattle.families.specs.Writing.{Writes}
 use Rattle.families.specs.Code.Families.{Counted, Named}
 use Rattle.families.proofs.Split.{Split, before-run, behind-child, before-formed, after-formed}
 use Rattle.families.proofs.Heads.{chain-word}
 use Rattle.families.proofs.Tested.{cond_same, named, chain_parent, siblings_few, Fit, found, under, none-under}
 use Rattle.families.proofs.Few.{few*-⧺, few-node}
+use Rattle.families.proofs.Written.{refuses}
 
 module _ (Γ : Context) {l c : Label} {parent child : ℕ} (P : Counted parent l) (N : Named child c) {ws : List ℕ} {i : ℕ} {r : Child} (w : Whole ws) (e : Under ws parent i child r) where
   -- the part has another head, no such child, or one with another head
@@ -70,3 +72,9 @@ module _ (Γ : Context) {l c : Label} {parent child : ℕ} (P : Counted parent l
     pub removed_few : few (node l others) ≡ true
     removed_few =
         few-node l others (omega (arith, siblings_few s)) (few*-⧺ s.before s.after (formed-few* s.before (before-formed s)) (formed-few* s.after (after-formed s)))
+
+-- the refusal at the only child, by what the code is told of it
+pub only_child : (Γ : Context) (l c : Label) (ws out : List ℕ) (i : ℕ) → Counted (head_number l) l → Named (head_number c) c → Whole ws
+    → (cond (fits ws (head_number l) (head_number c) (child_in ws i)) (child_in ws i) no_child).there ≡ true → get_or ws 0 0 % 256 < 2
+    → Writes (rewrite Γ (removing l c) i 0 (tree_in (parse ws))) out out (record { code = 22; end = 0 })
+only_child Γ l c ws out i P N w t h = refuses _ (removes_only Γ P N w (record { is = refl }) t h)

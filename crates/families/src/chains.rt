@@ -25,6 +25,7 @@ fn append_without(out: &mut [u16], head: u16, ws: &[u16], start: usize, from: us
 }
 
 // 4, 6, 55 to 57: child `i` goes, the fitting zero or one, from two or more.
+#[tactic(auto, using(crate::proofs::Removed::only_child))]
 pub fn remove(ws: &[u16], parent: u16, child: u16, i: usize, out: &mut [u16]) -> Rewritten
     requires { Whole ws.now }
     ensures { Removes ws.now out.old out.new result parent child i }
@@ -72,6 +73,7 @@ fn is_loose(word: u16) -> bool
 }
 
 // 1: child `i`, of the parent's own head, is merged into it: its head's word goes, and the parent's counts its children too.
+#[tactic(auto, using(crate::proofs::Merged::too_many))]
 pub fn merge(ws: &[u16], i: usize, out: &mut [u16]) -> Rewritten
     requires { Whole ws.now }
     ensures { Does ws.now out.old out.new result merging i 0 }

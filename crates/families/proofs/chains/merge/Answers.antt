@@ -5,8 +5,8 @@ use native.Mathlib.Omega.{arith}
 use borrow.Author.Tests.{not-true, not-false}
 use Rattle.words.proofs.Runs.{added_as}
 use Rattle.families.proofs.Split.{some_word}
-use Rattle.families.proofs.Written.{refuses, writes, exceeds}
-use Rattle.families.proofs.Merged.{merges_other, Merging, merges-none, merges-child, child-inside, low_bytes, merged_many, merged_few, merged_words}
+use Rattle.families.proofs.Written.{refuses, writes}
+use Rattle.families.proofs.Merged.{merges_other, Merging, merges-none, merges-child, child-inside, low_bytes, merged_few, merged_words}
 use Rattle.families.proofs.chains.merge.Goals as goal
 
 pub bounds-ws-0 : goal.bounds-ws-0
@@ -43,18 +43,6 @@ bounds-ws-start c =
     } in
     let there : c.child_under-c.result.there ≡ true = (not-false _ c.if-not-c.false) in
     omega (arith, child-inside merging there)
-
-pub returns-then-head-more-gt256 : goal.returns-then-head-more-gt256
-returns-then-head-more-gt256 c =
-    let merging : let args = c.args in Merging args.ws.now args.i c.child_under-c.result = record {
-      whole = c.requires;
-      chained = sym c.is_chain.ensures ∙ c.if-not-is_chain.false;
-      under = c.child_under-c.ensures;
-    } in
-    let there : c.child_under-c.result.there ≡ true = (not-false _ c.if-not-c.false) in
-    λ Γ.
-    let m = merging in
-    exceeds _ _ (merges-child m there Γ) (merged_many m there c.if-head-more-gt256.true)
 
 pub overflow_sub-head : goal.overflow_sub-head
 overflow_sub-head c =

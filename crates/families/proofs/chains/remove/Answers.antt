@@ -5,7 +5,7 @@ use Rattle.words.proofs.Runs.{added_as}
 use Rattle.families.proofs.Split.{some_word, child-bounds}
 use Rattle.families.proofs.Tested.{found}
 use Rattle.families.proofs.Written.{refuses, writes}
-use Rattle.families.proofs.Removed.{removes-none, removes_only, removes-child, removed_words, removed_few}
+use Rattle.families.proofs.Removed.{removes-none, removes-child, removed_words, removed_few}
 use Rattle.families.proofs.chains.remove.Goals as goal
 
 pub bounds-ws-0 : goal.bounds-ws-0
@@ -13,10 +13,6 @@ bounds-ws-0 c = some_word c.requires
 
 pub returns-then-not-c : goal.returns-then-not-c
 returns-then-not-c c = λ l d P N Γ. refuses _ (removes-none Γ P N c.requires c.child_under-c.ensures (not-true _ c.if-not-c.true))
-
-pub returns-then-head-lt2 : goal.returns-then-head-lt2
-returns-then-head-lt2 c = λ l d P N Γ.
-    refuses _ (removes_only Γ P N c.requires c.child_under-c.ensures (not-false _ c.if-not-c.false) c.if-head-lt2.true)
 
 pub append_without-done-requires : goal.append_without-done-requires
 append_without-done-requires c =
