@@ -1,48 +1,34 @@
--- Slices of a case: filling one word at a time, and what was read into a front.
-use mathlib.Core.Path.{◌≡◌, ◌∙◌, ap}
-use mathlib.Core.List.{List, append_assoc, append-nil}
-use Prim.Native.Nat.{ℕ, suc, ◌+◌, ◌-◌, ◌≤◌, ◌<◌, min, max}
-use native.Mathlib.Numerals.{add-one}
+-- Slices of a case: filling, and what was read into a front.
+use mathlib.Core.Path.{◌≡◌, sym, ◌∙◌, ap}
+use mathlib.Core.List.{List, ◌++◌, append-nil}
+use Prim.Native.Nat.{ℕ, ◌+◌, ◌-◌, ◌≤◌, ◌<◌, min, max}
 use native.Mathlib.Decide.{dec_le}
 use native.Mathlib.Omega.{arith}
-use denote.Ref.{Bor}
-use lib.ListN.{length, set, length-set, length-take, take-append-drop, drop_of_length-le}
-use lib.Seq.{take_all, take-suc-set, drop-set-lt, set_out}
-use Rattle.cases.specs.Slices.{filled, Front, Taken}
+use borrow.Rule.Slice.PartMut.{put_mid}
+use lib.ListN.{length, take, drop, replicate, length-take, length-drop, take-append-drop, drop_of_length-le}
+use lib.Seq.{take_all, drop-drop}
+use Rattle.cases.specs.Slices.{filled}
 
--- nothing is left to fill
-pub filled-end : (ws : List ℕ) (from to word : ℕ) → to ≤ from → filled ws from to word ≡ ws
+-- nothing is to be filled
+pub filled-end : (ws : List ℕ) (from to word end : ℕ) → end ≡ min to (length ws) → end ≤ from → ws ≡ filled ws from to word
 unfolding filled
-filled-end ws from to word h =
+filled-end ws from to word end e h =
     let z : min to (length ws) - from ≡ 0 = omega arith in
-    let m : max from to ≡ from = omega arith in
-    rw (z, m) (take-append-drop from ws)
-
--- one word stored, and the rest to fill behind it
-stored : (ws : List ℕ) (i to word : ℕ) → i < to → i < length ws → filled (set ws i word) (i + 1) to word ≡ filled ws i to word
-unfolding filled
-stored ws i to word h k =
-    let n : min to (length ws) - i ≡ suc (min to (length ws) - suc i) = omega arith in
-    let m : max (suc i) to ≡ to = omega arith in
-    let l : max i to ≡ to = omega arith in
-    rw (add-one, length-set, n, m, l, take-suc-set ws i word, append_assoc, drop-set-lt to ws i word)
-
--- past the end there is nothing to store, nor to fill
-filled_out : (ws : List ℕ) (i to word : ℕ) → length ws ≤ i → filled ws i to word ≡ ws
-unfolding filled
-filled_out ws i to word h =
-    let z : min to (length ws) - i ≡ 0 = omega arith in
-    rw (z, take_all i ws h, drop_of_length-le ws {i = max i to} (omega arith), append-nil)
-
-pub filled_more : (ws : List ℕ) (i to word : ℕ) → i < to → filled (set ws i word) (i + 1) to word ≡ filled ws i to word
-filled_more ws i to word h = by_room (dec_le (suc i) (length ws))
+    rw z (by_room (dec_le to from))
   where
-    by_room : Dec (suc i ≤ length ws) → filled (set ws i word) (i + 1) to word ≡ filled ws i to word
-    by_room (yes k) = stored ws i to word h k
-    by_room (no k) = rw (set_out ws i word (omega arith), filled_out ws (i + 1) to word (omega arith), filled_out ws i to word (omega arith))
+    by_room : Dec (to ≤ from) → ws ≡ take from ws ++ drop (max from to) ws
+    by_room (yes k) = let m : max from to ≡ from = omega arith in rw m (sym (take-append-drop from ws))
+    by_room (no k) = rw (take_all from ws (omega arith), drop_of_length-le ws {i = max from to} (omega arith)) (sym (append-nil ws))
 
--- the front of a slice into which was read
-pub front-taken : (room room' r : Bor (List ℕ)) (n k : ℕ) → Front room' k r → k ≤ n → length room'.now ≡ length room.now → room'.ref_ptr ≡ room.ref_ptr → Taken room n r
-front-taken room room' r n k f h l p =
-    let e : length r.now ≡ min k (length room'.now) = ap length f.same ∙ length-take k room'.now in
-    record { few = omega arith; begin = f.begin ∙ p }
+-- the word in all the places from the one offset up to the other
+pub filled_put : (ws : List ℕ) (from to word end : ℕ) (ys : List ℕ) → end ≡ min to (length ws) → from < end → ys ≡ replicate (length (take (end - from) (drop from ws))) word
+    → put_mid from (end - from) ws ys ≡ filled ws from to word
+unfolding filled
+filled_put ws from to word end ys e h y =
+    let n : length (take (end - from) (drop from ws)) ≡ min to (length ws) - from = simp (length-take, length-drop) (omega arith) in
+    let m : max from to ≡ to = omega arith in
+    rw (y, n, m, drop-drop (end - from) from ws, behind (dec_le to (length ws)))
+  where
+    behind : Dec (to ≤ length ws) → drop (from + (end - from)) ws ≡ drop to ws
+    behind (yes k) = let z : from + (end - from) ≡ to = omega arith in rw z
+    behind (no k) = drop_of_length-le ws {i = from + (end - from)} (omega arith) ∙ sym (drop_of_length-le ws {i = to} (omega arith))

@@ -12,49 +12,49 @@ mod step_cases;
 mod term_cases;
 mod typing_cases;
 
-use crate::input::{END, Input, Number, number_or_end, skip_line};
+use crate::input::{Input, number_or_end, skip_line};
 use crate::output::Output;
 use std::io::{self, BufReader, LineWriter, Write};
 
 // The rooms of the two sides have so many words: more than the slice of a side is to have.
 const ROOM: usize = 5000;
 
-// The table of kinds. Runs and replays are lent the same two rooms, which nobody clears between cases: a word that one left, and that the
-// next was to write over, would show.
+// What runs and replays are lent. Nobody clears the two sides between cases: a word that one left, and that the next was to write over, would
+// show.
+#[derive(Drop)]
+pub struct Rooms {
+    left: [u16; ROOM],
+    right: [u16; ROOM],
+    file: Vec<u8>,
+}
+
+// The table of kinds. `behind` is the byte that was taken behind the kind.
 fn answer(
     input: &mut Input,
     output: &mut Output,
-    kind: Number,
-    left_room: &mut [u16; ROOM],
-    right_room: &mut [u16; ROOM],
+    kind: usize,
+    behind: u8,
+    rooms: &mut Rooms,
 ) -> io::Result<()> {
-    let number = kind.value;
-    match number {
+    match kind {
         1 => term_cases::answer(input, output),
         2 => typing_cases::answer(input, output),
         3 => step_cases::answer(input, output),
-        4 => run_cases::answer(input, output, left_room, right_room),
-        5 => replay_cases::answer(input, output, left_room, right_room),
+        4 => run_cases::answer(input, output, rooms),
+        5 => replay_cases::answer(input, output, rooms),
         6 => step_cases::answer_preview(input, output),
-        _ => skip_line(input, output, kind.behind),
+        _ => skip_line(input, behind),
     }
 }
 
-// Case by case up to the end of the input. The loop counts down since nothing says that the input ends.
-fn answer_all(
-    input: &mut Input,
-    output: &mut Output,
-    left_room: &mut [u16; ROOM],
-    right_room: &mut [u16; ROOM],
-) -> io::Result<()> {
-    let mut turns = u64::MAX;
-    while turns > 0 {
+// Case by case up to the end of the input. The loop counts, since nothing says that the input ends.
+fn answer_all(input: &mut Input, output: &mut Output, rooms: &mut Rooms) -> io::Result<()> {
+    for _ in 0..u64::MAX {
         let kind = number_or_end(input)?;
-        if kind.behind == END {
+        let Some(behind) = kind.behind else {
             return Ok(());
-        }
-        answer(input, output, kind, left_room, right_room)?;
-        turns -= 1;
+        };
+        answer(input, output, kind.value, behind, rooms)?;
     }
     Ok(())
 }
@@ -62,8 +62,11 @@ fn answer_all(
 fn main(rt: HostRuntime) -> io::Result<()> {
     let mut input = BufReader::new(rt.alloc(), rt.stdin())?;
     let mut output = LineWriter::new(rt.alloc(), rt.stdout())?;
-    let mut left_room = [0u16; ROOM];
-    let mut right_room = [0u16; ROOM];
-    answer_all(&mut input, &mut output, &mut left_room, &mut right_room)?;
+    let mut rooms = Rooms {
+        left: [0; ROOM],
+        right: [0; ROOM],
+        file: Vec::new(rt.alloc()),
+    };
+    answer_all(&mut input, &mut output, &mut rooms)?;
     output.flush()
 }

@@ -2,6 +2,7 @@
 // to the front of its slice, and these, and how many words the slice has, up to all of its room; the count of steps that is told; how many
 // words of steps are lent, up to 9,000, and these. Each slice is the front of a room that is kept from case to case, so behind its words
 // stands what the case before left there. An answer is a line of `answers`.
+use crate::Rooms;
 use crate::answers::write;
 use crate::declared::next_declarations;
 use crate::input::{Input, front_mut, next_number, next_words};
@@ -17,17 +18,12 @@ fn next_slice<'a>(input: &mut Input, room: &'a mut [u16]) -> io::Result<&'a mut 
     Ok(front_mut(room, size))
 }
 
-pub fn answer(
-    input: &mut Input,
-    output: &mut Output,
-    left_room: &mut [u16],
-    right_room: &mut [u16],
-) -> io::Result<()> {
+pub fn answer(input: &mut Input, output: &mut Output, rooms: &mut Rooms) -> io::Result<()> {
     let ds = next_declarations(input)?;
     let n = next_number(input)?;
-    let left = next_slice(input, left_room)?;
+    let left = next_slice(input, &mut rooms.left)?;
     let m = next_number(input)?;
-    let right = next_slice(input, right_room)?;
+    let right = next_slice(input, &mut rooms.right)?;
     let count = next_number(input)?;
     let mut room = [0u16; 9000];
     let steps = next_words(input, &mut room)?;

@@ -2,13 +2,24 @@
 // words it has, up to 5,000, and the word that fills the rest of it; the rule, the place, i and j. An answer is code, side, step, at, length,
 // how many words the slice then has up to the last that is not zero, and these.
 use crate::declared::next_declarations;
-use crate::input::{Input, fill, front_mut, narrow, next_number, next_words};
-use crate::output::{Output, also, also_slice, end_line, first};
+use crate::input::{Input, fill, front, front_mut, narrow, next_number, next_words};
+use crate::output::{Output, also_slice, end_line};
 use crate::typing_cases;
+use declarations::SIZE;
 use lent::steps::Step;
-use std::io;
+use std::io::{self, Write};
 use step::preview::preview_step;
 use step::single::{Answer, take_step};
+
+// What a case says. The slice that is lent is the first `size` words of the room.
+#[derive(Drop)]
+struct StepCase {
+    ds: [u16; SIZE],
+    length: usize,
+    room: [u16; 5000],
+    size: usize,
+    step: Step,
+}
 
 fn next_step(input: &mut Input) -> io::Result<Step> {
     let rule = narrow(next_number(input)?);
@@ -19,42 +30,53 @@ fn next_step(input: &mut Input) -> io::Result<Step> {
 }
 
 fn write(output: &mut Output, answer: Answer, ws: &[u16]) -> io::Result<()> {
-    first(output, answer.code)?;
-    also(output, answer.side)?;
-    also(output, answer.step)?;
-    also(output, answer.at)?;
-    also(output, answer.length)?;
+    let Answer {
+        code,
+        side,
+        step,
+        at,
+        length,
+    } = answer;
+    write!(output, "{code} {side} {step} {at} {length}")?;
     also_slice(output, ws)?;
     end_line(output)
 }
 
-// The slice is lent at the size that the case says, since a caller may lend one of any size.
-fn next_slice<'a>(input: &mut Input, room: &'a mut [u16]) -> io::Result<&'a mut [u16]> {
-    let given = next_words(input, room)?.len();
-    let n = next_number(input)?;
-    let ws = front_mut(room, n);
-    let size = ws.len();
-    let word = narrow(next_number(input)?);
-    fill(ws, given, size, word);
-    Ok(ws)
-}
-
-pub fn answer(input: &mut Input, output: &mut Output) -> io::Result<()> {
+// The slice is lent at the size that the case says, since a caller may lend one of any size. Not by `next_slice` of `run_cases`: the words behind those that are given are told here.
+fn next_case(input: &mut Input) -> io::Result<StepCase> {
     let ds = next_declarations(input)?;
     let length = next_number(input)?;
     let mut room = [0u16; 5000];
-    let ws = next_slice(input, &mut room)?;
+    let given = next_words(input, &mut room)?.len();
+    let size = next_number(input)?;
+    let word = narrow(next_number(input)?);
+    fill(&mut room, given, size, word);
     let step = next_step(input)?;
+    Ok(StepCase {
+        ds,
+        length,
+        room,
+        size,
+        step,
+    })
+}
+
+pub fn answer(input: &mut Input, output: &mut Output) -> io::Result<()> {
+    let StepCase {
+        ds,
+        length,
+        mut room,
+        size,
+        step,
+    } = next_case(input)?;
+    let ws = front_mut(&mut room, size);
     let answer = take_step(&ds, ws, length, step);
     write(output, answer, ws)
 }
 
 // The same cases, for the preview of the step; its answer is written as typing's is.
 pub fn answer_preview(input: &mut Input, output: &mut Output) -> io::Result<()> {
-    let ds = next_declarations(input)?;
-    let length = next_number(input)?;
-    let mut room = [0u16; 5000];
-    let ws = next_slice(input, &mut room)?;
-    let step = next_step(input)?;
-    typing_cases::write(output, preview_step(&ds, ws, length, step))
+    let case = next_case(input)?;
+    let ws = front(&case.room, case.size);
+    typing_cases::write(output, preview_step(&case.ds, ws, case.length, case.step))
 }

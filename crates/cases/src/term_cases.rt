@@ -1,6 +1,7 @@
 // Cases that call the public functions of `term` and `words`. Behind its kind a case is `name=` and numbers: the first says what is called,
 // and the others are what it is called with (the modules have the numbers). The answer is `name=` and numbers. The stored output was worked
-// out by hand from document 01, "Terms as words"; the comments of the stored input name the sentences.
+// out by hand from document 01, "Terms as words"; the comments of the stored input name the sentences. What is called
+// goes to the modules as its number, since those of the stored input may not change.
 mod heads;
 mod parts;
 mod runs;
@@ -12,14 +13,11 @@ use crate::output::{Output, end_line};
 use std::io;
 
 fn call(input: &mut Input, output: &mut Output, op: usize) -> io::Result<()> {
-    if op < 10 {
-        parts::answer(input, output, op)
-    } else if op < 20 {
-        terms::answer(input, output, op)
-    } else if op < 30 {
-        heads::answer(input, output, op)
-    } else {
-        runs::answer(input, output, op)
+    match op {
+        0..=9 => parts::answer(input, output, op),
+        10..=19 => terms::answer(input, output, op),
+        20..=29 => heads::answer(input, output, op),
+        _ => runs::answer(input, output, op),
     }
 }
 

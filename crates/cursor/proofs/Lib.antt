@@ -1,2 +1,2 @@
--- The laws of a span.
+-- The laws of a piece.
 pub mod Spans

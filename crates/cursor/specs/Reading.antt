@@ -4,7 +4,6 @@ use Rattle.std.specs.Prelude.{Bool, cond, ℕ, ◌+◌, leb, length}
 use Rattle.text.specs.Pieces.{Text, piece_end}
 use Rattle.cursor.specs.declared.Reader.{Reader}
 use Rattle.cursor.specs.declared.Piece.{Piece}
-use Rattle.cursor.specs.declared.Span.{Span}
 
 -- behind the byte that ends a piece, and one past the end of the text where none does; a place that is there already stays
 unfoldable pub past : Text → ℕ → ℕ
@@ -23,7 +22,3 @@ next_of r b =
         at = past r.bytes.now (piece_end r.bytes.now r.at b);
       };
     }
-
--- the same in numbers
-abbrev pub span_at : Text → ℕ → ℕ → Span
-span_at s at b = record { end = piece_end s at b; next = past s (piece_end s at b); last = at_end s (past s (piece_end s at b)) }

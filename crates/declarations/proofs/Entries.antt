@@ -214,6 +214,24 @@ declarations ds e =
     let q = counts (get_or ds 0 0) (get_or ds 1 0) (get_or ds 2 0) p.1 in
     record { long = eqb-true _ _ p.0; types = q.0; bases = q.1; variables = q.2; basis = all_up_to-at _ _ p.2; variable = all_up_to-at _ _ p.3 }
 
+-- what the tests of declarations tell, one after the other, in a view of them as an array
+module _ {ds view : List ℕ} (long : length ds ≡ size) (same : view ≡ ds) where
+  abbrev counts_here : Bool
+  counts_here = counted (get_or view 0 0) (get_or view 1 0) (get_or view 2 0)
+
+  pub too_many_names : counts_here ≡ false → false ≡ good_declarations ds
+  unfolding good_declarations
+  too_many_names h = rw (eq-eqb _ _ long, ← same, h)
+
+  module _ (few : counts_here ≡ true) {b : Bool} (bases : b ≡ all_up_to (get_or view 1 0) (good_basis view)) where
+    pub a_basis_bad : b ≡ false → b ≡ good_declarations ds
+    unfolding good_declarations
+    a_basis_bad h = rw (eq-eqb _ _ long, ← same, few, ← bases, h)
+
+    pub bases_good : b ≡ true → {v : Bool} → v ≡ all_up_to (get_or view 2 0) (good_variable view) → v ≡ good_declarations ds
+    unfolding good_declarations
+    bases_good h {v} variables = rw (eq-eqb _ _ long, ← same, few, ← bases, h) variables
+
 -- both lengths are short, the indices that a variable's kind wants are good, and where it is marked they are equal
 pub record GoodVariable (ds : List ℕ) (a : ℕ) : Type 0 where
   pub first-few : first_len ds a ≤ max_index

@@ -8,16 +8,15 @@ use native.Mathlib.Omega.{arith}
 use borrow.Author.Count.{below_none, below_more}
 use borrow.Author.Tests.{eq-eqb, le-leb}
 use lib.Dec.{leb}
-use lib.ListN.{length, take, drop, get_or, set, length-set, get_or-replicate}
+use lib.ListN.{length, take, drop, get_or, set, replicate, length-set, get_or-replicate}
 use lib.Seq.{take-length, get_or-set_same, get_or-set_other, sets, length-sets}
 use Rattle.term.specs.Parts.{parse, tree_in}
 use Rattle.term.specs.Terms.{max_index, max_names}
 use Rattle.words.specs.Words.{cleared}
 use Rattle.words.proofs.Runs.{length-cleared}
 use Rattle.words.proofs.Listed.{all_up_to-all}
-use Rattle.declarations.specs.declared.constructor.Put.TheVariants.{Done}
 use Rattle.declarations.specs.Declarations.{size, basis_at, variable_at, type_in, marked, basis_in, variable_in, mark_in, good_index, is_index, is_variable, good_basis, good_variable, good_declarations}
-use Rattle.declarations.specs.Put.{started, room, basis_put, variable_put}
+use Rattle.declarations.specs.Put.{done, started, room, basis_put, variable_put}
 use Rattle.declarations.proofs.Entries.{index_tests, basis_len, basis_words, kind_word, first_len, second_len, first_words, second_words, GoodDeclarations, declarations, basis_good, variable_good}
 use Rattle.declarations.proofs.Put.{room-done, variable_few}
 use Rattle.declarations.proofs.Stores.{Same, same_then, same-part, same_word, same_first, Apart, before, behind, sets_before, sets_apart, sets_inside}
@@ -130,7 +129,7 @@ module _ {ds out : List ℕ} {n m : ℕ} (e : good_declarations ds ≡ true) (k 
 abbrev numbered : List ℕ → ℕ → List ℕ
 numbered ds k = set ds k (get_or ds k 0 + 1)
 
-module _ (ds index : List ℕ) (e : good_declarations ds ≡ true) (r : room ds 1 ≡ Done) (f : is_index (get_or ds 0 0) index ≡ true) where
+module _ (ds index : List ℕ) (e : good_declarations ds ≡ true) (r : room ds 1 ≡ done) (f : is_index (get_or ds 0 0) index ≡ true) where
   abbrev a : ℕ
   a = get_or ds 1 0
 
@@ -173,7 +172,7 @@ module _ (ds index : List ℕ) (e : good_declarations ds ≡ true) (r : room ds 
       kept-good e k (omega arith) h.2 (below_more _ a (basis_still_good e k) new) (variable_still_good e k)
 
 -- ---- one variable more
-module _ (ds : List ℕ) (kind : ℕ) (xs ys : List ℕ) (e : good_declarations ds ≡ true) (r : room ds 2 ≡ Done)
+module _ (ds : List ℕ) (kind : ℕ) (xs ys : List ℕ) (e : good_declarations ds ≡ true) (r : room ds 2 ≡ done)
     (f : is_variable (get_or ds 0 0) kind xs ys ≡ true) where
   abbrev v : ℕ
   v = get_or ds 2 0
@@ -232,6 +231,10 @@ module _ (ds : List ℕ) (kind : ℕ) (xs ys : List ℕ) (e : good_declarations 
       kept-good e k h.1 (omega arith) (basis_still_good e k) (below_more _ v (variable_still_good e k) new)
 
 -- ---- no names but so many types
+pub zeroed : (ds : List ℕ) → replicate (length ds) 0 ≡ cleared ds 0
+unfolding cleared
+zeroed ds = let z : length ds - 0 ≡ length ds = omega arith in rw z
+
 cleared-zero : (ds : List ℕ) (k : ℕ) → k < length ds → get_or (cleared ds 0) k 0 ≡ 0
 unfolding cleared
 cleared-zero ds k h = get_or-replicate (length ds - 0) k 0 0 (omega arith)

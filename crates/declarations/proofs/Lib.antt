@@ -1,4 +1,5 @@
 -- The laws of declarations that the crates above cite.
+pub mod UpTo
 pub mod Entries
 pub mod Put
 mod Stores

@@ -1,13 +1,11 @@
 -- The witnesses of what `specs/Statements` says of declarations.
 use mathlib.Core.Path.{◌≡◌, refl}
 use mathlib.Core.Bool.{Bool, true, false, cond}
-use Prim.Native.Nat.{ℕ}
-use native.Mathlib.Omega.{arith}
 use borrow.Author.Tests.{eqb-true, leb-true}
 use lib.Dec.{eqb, leb}
 use lib.ListN.{length}
-use Rattle.declarations.specs.declared.constructor.Put.TheVariants.{Done, WrongSize, Bad}
-use Rattle.declarations.specs.Put.{start_answer}
+use Rattle.declarations.specs.declared.constructor.PutError.TheVariants.{WrongSize, Bad}
+use Rattle.declarations.specs.Put.{done, refused, start_answer}
 use Rattle.declarations.specs.Statements.{GoodContext, Starts, PutsBasis, PutsVariable}
 use Rattle.declarations.proofs.Entries as E
 use Rattle.declarations.proofs.Put.{answer-done}
@@ -17,10 +15,10 @@ use Rattle.declarations.proofs.Grown.{started-context, basis_context, variable_c
 pub good-context : GoodContext
 good-context ds e = E.well_formed ds e
 
-start_tests : (b c : Bool) → cond b (cond c Done Bad) WrongSize ≡ Done → (b ≡ true) × (c ≡ true)
+start_tests : (b c : Bool) → cond b (cond c done (refused Bad)) (refused WrongSize) ≡ done → (b ≡ true) × (c ≡ true)
 start_tests true true h = (refl, refl)
-start_tests true false h = absurd (let z : ◌≡◌ {A = ℕ} 0 1 = cc in omega arith)
-start_tests false c h = absurd (let z : ◌≡◌ {A = ℕ} 0 1 = cc in omega arith)
+start_tests true false h = cc
+start_tests false c h = cc
 
 pub starts : Starts
 unfolding start_answer

@@ -82,13 +82,15 @@ unfoldable pub marks_square : ℕ → List ℕ → List ℕ → Bool
 unfolding same_words
 marks_square kind first second = cond (marked kind) (eqb kind 7 && same_words first second) true
 
--- a kind, marked or not, and exactly the indices that it wants: the others are empty
+-- exactly the indices that a kind wants, whether it is marked or not: the others are empty
+abbrev pub are_wanted : ℕ → ℕ → List ℕ → List ℕ → Bool
+are_wanted N kind first second =
+    cond (eqb (kind % 4) 0) (eqb (length first) 0) (is_index N first)
+    && cond (eqb (kind % 4) 3) (is_index N second) (eqb (length second) 0)
+
 unfoldable pub is_variable : ℕ → ℕ → List ℕ → List ℕ → Bool
 unfolding marks_square
-is_variable N kind first second =
-    marks_square kind first second
-    && (cond (eqb (kind % 4) 0) (eqb (length first) 0) (is_index N first)
-    && cond (eqb (kind % 4) 3) (is_index N second) (eqb (length second) 0))
+is_variable N kind first second = marks_square kind first second && are_wanted N kind first second
 
 -- the same of words in their places. A length word may say anything, so it is tested first
 unfoldable pub good_index : ℕ → List ℕ → ℕ → ℕ → Bool

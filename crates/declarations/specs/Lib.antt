@@ -2,4 +2,3 @@
 pub mod Declarations
 pub mod Put
 pub mod Statements
-pub mod Code

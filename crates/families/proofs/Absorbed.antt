@@ -1,7 +1,8 @@
 -- Absorbing into a 0: what `rewrite` answers, by the tests of the code.
 use mathlib.Core.Path.{◌≡◌, refl}
-use mathlib.Core.Bool.{true, false}
+use mathlib.Core.Bool.{true}
 use mathlib.Core.List.{List, [], ◌∷◌}
+use Rattle.std.specs.Prelude.{Some, None}
 use mathlib.Core.Option.{some, none as refused}
 use Prim.Native.Nat.{ℕ}
 use Rattle.term.specs.Heads.{scalar_zero, scalar_product, word}
@@ -26,14 +27,14 @@ zero : Named 5 scalar_zero
 unfolding word
 zero = record { number = refl; nameless = refl }
 
-module _ (Γ : Context) {ws : List ℕ} {i : ℕ} {r : Child} (w : Whole ws) (e : Under ws 8 i 5 r) where
-  pub absorbs-none : r.there ≡ false → rewrite Γ absorbing i 0 (tree_in (parse ws)) ≡ refused
+module _ (Γ : Context) {ws : List ℕ} {i : ℕ} (w : Whole ws) where
+  pub absorbs-none : Under ws 8 i 5 None → rewrite Γ absorbing i 0 (tree_in (parse ws)) ≡ refused
   unfolding rewrite absorb_at
-  absorbs-none = none-under w e product zero absorb_at refl (λ b m f a z. rw z) (rewrite Γ absorbing i 0) (λ m f z. refl)
+  absorbs-none e = none-under w e product zero absorb_at refl (λ b m f a z. rw z) (rewrite Γ absorbing i 0) (λ m f z. refl)
 
-  pub absorbs-child : r.there ≡ true → rewrite Γ absorbing i 0 (tree_in (parse ws)) ≡ some (node scalar_zero none)
+  pub absorbs-child : {r : Child} → Under ws 8 i 5 (Some r) → rewrite Γ absorbing i 0 (tree_in (parse ws)) ≡ some (node scalar_zero none)
   unfolding rewrite absorb_at
-  absorbs-child t = let s = found w e t in let u = under w e product zero t s in rw (s.tree, s.child, ← u.parent, ← u.child, is_head_lem scalar_product, is_head_lem scalar_zero)
+  absorbs-child e = let s = found w e in let u = under w e product zero s in rw (s.tree, s.child, ← u.parent, ← u.child, is_head_lem scalar_product, is_head_lem scalar_zero)
 
 pub zero-few : few (node scalar_zero none) ≡ true
 unfolding few count

@@ -15,8 +15,10 @@ use Rattle.rules.specs.Instances.{Instance, swaps}
 use Rattle.rules.proofs.Opening.{At, too_far, there, at}
 use Rattle.rules.proofs.Matching.{no_answer, cond-some}
 use Rattle.rulebook.specs.declared.Row.{Row}
+use Rattle.rulebook.specs.declared.Family.{Family}
+use Rattle.rulebook.specs.declared.Family.TheVariants.{NoRule, Equation, Spread, Remove, Absorb, Merge, Collect, Swap, Distribute}
 use Rattle.rulebook.specs.Code.Rows.{row_of}
-use Rattle.families.specs.Writing.{family_number, deepens_in, may_deepen, keeps_depth}
+use Rattle.families.specs.Writing.{family_in, deepens_in, may_deepen, keeps_in, keeps_depth}
 use Rattle.families.proofs.Lines.{family_is}
 
 true_false : {A : Type 0} → true ≡ false → A
@@ -64,7 +66,7 @@ at-child {u} c make z k (there b t a q n) e = rw q (k b t a u (cond-some c (make
 
 -- what is removed, absorbed, merged or exchanged leaves the part no deeper
 pub no_deeper : (rule : Rule) → may_deepen (some rule) ≡ false → (Γ : Context) (i j : ℕ) (t u : Tree) → rewrite Γ rule i j t ≡ some u → depth u ≤ depth t
-unfolding may_deepen deepens_in family_number rewrite remove_at absorb_at merge_at swap_at depth
+unfolding may_deepen family_in rewrite remove_at absorb_at merge_at swap_at depth
 no_deeper (k ⇒ l ▷ r) h Γ i j t u e = true_false h
 no_deeper (spreading l w s r) h Γ i j t u e = true_false h
 no_deeper (removing l c) h Γ i j (node m f) u e = at-child (eqb j 0 && is_head l m (count f)) (remove_at l c) refl (removed l c) (at f i) e
@@ -76,7 +78,7 @@ no_deeper distributing h Γ i j t u e = true_false h
 
 -- an exchange leaves it as deep as it was
 pub same-depth : (rule : Rule) → keeps_depth (some rule) ≡ true → {Γ : Context} {i j : ℕ} {t u : Tree} → Instance Γ rule i j t u → depth u ≡ depth t
-unfolding keeps_depth family_number depth
+unfolding keeps_depth family_in depth
 same-depth swapping h (swaps b a t u l) = omega (arith, depth*-⧺ b (t ▹ u ▹ a), depth*-⧺ b (u ▹ t ▹ a))
 same-depth (k ⇒ l ▷ r) h x = true_false (sym h)
 same-depth (spreading l w s r) h x = true_false (sym h)
@@ -91,6 +93,20 @@ pub row-deepens : (n : ℕ) (row : Row) → row ≡ row_of n → deepens_in row.
 unfolding may_deepen
 row-deepens n row e = ap deepens_in (family_is n row e)
 
-pub row_keeps : (n : ℕ) (row : Row) → row ≡ row_of n → eqb row.family 7 ≡ keeps_depth (rule_of n)
+pub row_keeps : (n : ℕ) (row : Row) → row ≡ row_of n → keeps_in row.family ≡ keeps_depth (rule_of n)
 unfolding keeps_depth
-row_keeps n row e = ap (λ (f : ℕ). eqb f 7) (family_is n row e)
+row_keeps n row e = ap keeps_in (family_is n row e)
+
+pub swaps_kept : (f : Family) → f ≡ Swap → true ≡ keeps_in f
+swaps_kept f e = rw e
+
+pub others_kept : (f : Family) → (f ≡ Swap → ⊥) → false ≡ keeps_in f
+others_kept NoRule h = refl
+others_kept Equation h = refl
+others_kept Spread h = refl
+others_kept Remove h = refl
+others_kept Absorb h = refl
+others_kept Merge h = refl
+others_kept Collect h = refl
+others_kept Swap h = absurd (h refl)
+others_kept Distribute h = refl

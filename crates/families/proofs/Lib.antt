@@ -1,5 +1,6 @@
 -- The laws of the families.
 mod Split
+mod Whole
 mod Walk
 mod Heads
 mod Tested

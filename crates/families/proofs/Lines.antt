@@ -1,11 +1,9 @@
 -- The row of a rule's number, and what it says of the rule.
 use mathlib.Core.Path.{◌≡◌, refl, sym, ◌∙◌, ap}
-use mathlib.Core.Logic.{◌≢◌}
-use mathlib.Core.Bool.{Bool, true, ◌&&◌}
+use mathlib.Core.Bool.{Bool, true, false, ◌&&◌}
 use mathlib.Core.Option.{Option, some, none}
 use Prim.Native.Nat.{ℕ, ◌/◌}
-use native.Mathlib.Omega.{arith}
-use borrow.Author.Tests.{eqb-true, lt-ltb, ltb-true}
+use borrow.Author.Tests.{eqb-true, ltb-true}
 use lib.Dec.{eqb, ltb}
 use Rattle.term.specs.Heads.{Label, scalar_zero, scalar_sum, scalar_product, add, word, read}
 use Rattle.term.specs.Trees.{Forest, node, none as no-tree, ◌▹◌, count, Formed}
@@ -16,9 +14,11 @@ use Rattle.rules.proofs.Known.{either}
 use Rattle.rules.proofs.Every.{rule_passes}
 use Rattle.rules.proofs.Good.{good, both, every_good}
 use Rattle.rulebook.specs.declared.Row.{Row}
+use Rattle.rulebook.specs.declared.Family.{Family}
+use Rattle.rulebook.specs.declared.Family.TheVariants.{NoRule, Equation}
 use Rattle.rulebook.specs.Code.Rows.{head_number, start_in, row_for, row_of}
 use Rattle.families.specs.Code.Families.{chain_word, Fixed, Lined, an_equation, a_spreading, a_removing, an_absorbing, a_merging, a_collecting, a_swapping, a_distributing}
-use Rattle.families.specs.Writing.{family_number, is_family}
+use Rattle.families.specs.Writing.{family_in, is_family}
 use Rattle.families.proofs.Heads.{same_head}
 
 -- ---- what the families ask of their heads, as a test of every line of the table
@@ -80,9 +80,9 @@ pub lined : (n : ℕ) (r : Rule) (row : Row) → rule_of n ≡ some r → row �
 unfolding row_of
 lined n r row e h = rw (h, e) (lined_by (start_in n table) r (every_good n r e) (every_familiar n r e))
 
--- ---- the family of a row is its rule's; of a number that is no rule's it is 0
-number_by : (at : ℕ) (o : Option Rule) → (row_for at o).family ≡ family_number o
-unfolding row_for family_number
+-- ---- the family of a row is its rule's; of a number that is no rule's it is `NoRule`
+number_by : (at : ℕ) (o : Option Rule) → (row_for at o).family ≡ family_in o
+unfolding row_for family_in
 number_by at none = refl
 number_by at (some (k ⇒ l ▷ r)) = refl
 number_by at (some (spreading l w s r)) = refl
@@ -93,15 +93,15 @@ number_by at (some (collecting u v)) = refl
 number_by at (some swapping) = refl
 number_by at (some distributing) = refl
 
-pub family_is : (n : ℕ) (row : Row) → row ≡ row_of n → row.family ≡ family_number (rule_of n)
+pub family_is : (n : ℕ) (row : Row) → row ≡ row_of n → row.family ≡ family_in (rule_of n)
 unfolding row_of
 family_is n row e = rw e (number_by (start_in n table) (rule_of n))
 
--- what a row says of its rule, by the number that its family was found to be
-pub numbered : {row : Row} {n m : ℕ} {r : Rule} → n ≡ m → Lined row n r → Lined row m r
+-- what a row says of its rule, by the family that it was found to have
+pub numbered : {row : Row} {f g : Family} {r : Rule} → f ≡ g → Lined row f r → Lined row g r
 numbered e l = rw e at l
 
-no_family : {row : Row} {r : Rule} → Lined row 0 r → ⊥
+no_family : {row : Row} {r : Rule} → Lined row NoRule r → ⊥
 no_family l = elim l [ ]
 
 -- ---- the rule of a row
@@ -110,28 +110,41 @@ pub record Ruled (row : Row) (n : ℕ) : Type 0 where
   pub is : rule_of n ≡ some rule
   pub lines : Lined row row.family rule
 
+-- a rule that is no equation is a family's
+family_by : {row : Row} {f : Family} {r : Rule} → Lined row f r → (f ≡ Equation → ⊥) → is_family r ≡ true
+unfolding is_family
+family_by an_equation h = absurd (h refl)
+family_by (a_spreading a b c d e) h = refl
+family_by (a_removing a b) h = refl
+family_by an_absorbing h = refl
+family_by a_merging h = refl
+family_by (a_collecting a b) h = refl
+family_by a_swapping h = refl
+family_by a_distributing h = refl
+
+equation_only : {row : Row} {r : Rule} → Lined row Equation r → is_family r ≡ false
+unfolding is_family
+equation_only an_equation = refl
+
 module _ (n : ℕ) (row : Row) (e : row ≡ row_of n) where
-  ruled_by : row.family ≢ 0 → (o : Option Rule) → rule_of n ≡ o → Ruled row n
-  unfolding family_number
-  ruled_by h none f = absurd (h (family_is n row e ∙ ap family_number f))
+  ruled_by : (row.family ≡ NoRule → ⊥) → (o : Option Rule) → rule_of n ≡ o → Ruled row n
+  unfolding family_in
+  ruled_by h none f = absurd (h (family_is n row e ∙ ap family_in f))
   ruled_by h (some r) f = record { rule = r; is = f; lines = lined n r row f e }
 
-  pub ruled : row.family ≢ 0 → Ruled row n
+  pub ruled : (row.family ≡ NoRule → ⊥) → Ruled row n
   ruled h = ruled_by h (rule_of n) refl
 
-  unruled_by : row.family ≡ 0 → (o : Option Rule) → rule_of n ≡ o → rule_of n ≡ none
+  unruled_by : row.family ≡ NoRule → (o : Option Rule) → rule_of n ≡ o → rule_of n ≡ none
   unruled_by h none f = f
   unruled_by h (some r) f = absurd (no_family (numbered h (lined n r row f e)))
 
-  pub unruled : row.family ≡ 0 → rule_of n ≡ none
+  pub unruled : row.family ≡ NoRule → rule_of n ≡ none
   unruled h = unruled_by h (rule_of n) refl
 
-  -- ---- all but the first family
-  pub is_family_lem : {r : Rule} → rule_of n ≡ some r → is_family r ≡ ltb 1 row.family
-  unfolding is_family
-  is_family_lem f = sym (ap (ltb 1) (family_is n row e ∙ ap family_number f))
+  -- ---- all but an equation
+  pub an_equation's : {r : Rule} → rule_of n ≡ some r → row.family ≡ Equation → is_family r ≡ false
+  an_equation's {r} f h = equation_only (numbered h (lined n r row f e))
 
-  pub a_family : {r : Rule} → rule_of n ≡ some r → row.family ≢ 1 → is_family r ≡ true
-  a_family {r} f h =
-      let z : row.family ≢ 0 = λ z. no_family (numbered z (lined n r row f e)) in
-      is_family_lem f ∙ lt-ltb 1 row.family (omega (arith, z, h))
+  pub a_family : {r : Rule} → rule_of n ≡ some r → (row.family ≡ Equation → ⊥) → is_family r ≡ true
+  a_family {r} f h = family_by (lined n r row f e) h

@@ -1,24 +1,21 @@
 -- Two summands that the code has looked at: they are of their forms and have the same X, or `collected` refuses them.
-use mathlib.Core.Path.{◌≡◌, refl, sym, ◌∙◌}
-use mathlib.Core.Bool.{Bool, true, false, cond, true≢false}
+use mathlib.Core.Path.{◌≡◌, refl, sym}
+use mathlib.Core.Bool.{Bool, true, false}
 use mathlib.Core.List.{List}
 use mathlib.Core.Option.{some, none as refused}
 use Prim.Native.Nat.{ℕ, ◌-◌, ◌≤◌}
-use native.Mathlib.Omega.{arith}
-use borrow.Author.Tests.{ne_eqb}
-use lib.Dec.{eqb}
 use lib.ListN.{take, drop}
 use Rattle.words.specs.Words.{same_words}
 use Rattle.term.specs.Heads.{scalar_sum, scale, add}
 use Rattle.term.specs.Trees.{Tree, Forest, node, none, ◌▹◌, ◌⧺◌, words}
-use Rattle.rules.specs.Rewrite.{Multiple, collected}
+use Rattle.rules.specs.Rewrite.{Multiple, no_multiple, multiple, collected}
+use Rattle.std.specs.Prelude.{Some, None}
 use Rattle.rules.specs.Steps.{few}
-use Rattle.families.proofs.Tested.{cond_same}
 use Rattle.families.proofs.Multiples.{factor_run, Located, missing, located}
 
--- what `same_x` answers
+-- whether the runs from x up to `ends` and from y up to `last` are the same
 abbrev pub same_x : List ℕ → ℕ → ℕ → ℕ → ℕ → Bool
-same_x ws x ends y last = cond (eqb x 0) false (cond (eqb y 0) false (same_words (take (ends - x) (drop x ws)) (take (last - y) (drop y ws))))
+same_x ws x ends y last = same_words (take (ends - x) (drop x ws)) (take (last - y) (drop y ws))
 
 -- the new summand: the sum of two factors over X
 abbrev pub gathered : Tree → Tree → Tree → Tree
@@ -36,19 +33,12 @@ pub record Matched (ws : List ℕ) (a b c d x y : ℕ) (before between after : F
   pub run : take (b - x) (drop x ws) ≡ words body
   pub few-parts : (few one ≡ true) × (few two ≡ true) × (few body ≡ true)
 
--- an X that is found begins behind the part's first word, so its place is not 0
-found_test : (x y : ℕ) (b : Bool) → 1 ≤ x → 1 ≤ y → cond (eqb x 0) false (cond (eqb y 0) false b) ≡ b
-found_test x y b h k = rw (ne_eqb x 0 (omega arith), ne_eqb y 0 (omega arith))
-
-module _ {ws : List ℕ} {a b c d x y : ℕ} (h : 1 ≤ a) (k : 1 ≤ c) (before between after : Forest) where
-  pub matched : {p q : Multiple} {r : Bool} → Located ws a b x p → Located ws c d y q → r ≡ same_x ws x b y d → r ≡ true → Matched ws a b c d x y before between after p q
+module _ {ws : List ℕ} (before between after : Forest) where
+  pub matched : {a b c d x y : ℕ} {p q : Multiple} {r : Bool} → Located ws a b (Some x) p → Located ws c d (Some y) q → r ≡ same_x ws x b y d → r ≡ true
+      → Matched ws a b c d x y before between after p q
   unfolding collected
-  matched (missing e) q w t = absurd (true≢false (sym t ∙ w ∙ rw e))
-  matched (located f s u v i r o) (missing e) w t = absurd (true≢false (sym t ∙ w ∙ rw (e, cond_same (eqb x 0))))
   matched (located f s u v i r o) (located f' s' u' v' i' r' o') w t =
-      let i₁ : 1 ≤ x = omega arith in
-      let i₂ : 1 ≤ y = omega arith in
-      let same : same_words (words s) (words s') ≡ true = rw (found_test x y, o, o', t) at (sym w) in
+      let same : same_words (words s) (words s') ≡ true = rw (o, o', t) at (sym w) in
       record {
         one = f;
         two = f';
@@ -61,11 +51,18 @@ module _ {ws : List ℕ} {a b c d x y : ℕ} (h : 1 ≤ a) (k : 1 ≤ c) (before
         few-parts = (u, u', v);
       }
 
-  pub unmatched : {p q : Multiple} {r : Bool} → Located ws a b x p → Located ws c d y q → r ≡ same_x ws x b y d → r ≡ false → collected before between after p q ≡ refused
+  pub unmatched : {a b c d x y : ℕ} {p q : Multiple} {r : Bool} → Located ws a b (Some x) p → Located ws c d (Some y) q → r ≡ same_x ws x b y d → r ≡ false
+      → collected before between after p q ≡ refused
   unfolding collected
-  unmatched (missing e) q w t = refl
-  unmatched (located f s u v i r o) (missing e) w t = refl
   unmatched (located f s u v i r o) (located f' s' u' v' i' r' o') w t =
-      let i₁ : 1 ≤ x = omega arith in
-      let i₂ : 1 ≤ y = omega arith in
-      let same : same_words (words s) (words s') ≡ false = rw (found_test x y, o, o', t) at (sym w) in rw same
+      let same : same_words (words s) (words s') ≡ false = rw (o, o', t) at (sym w) in rw same
+
+  -- one of them is not of its form
+  pub no_first : {a b : ℕ} {p : Multiple} (q : Multiple) → Located ws a b None p → collected before between after p q ≡ refused
+  unfolding collected
+  no_first q missing = refl
+
+  pub no_second : {c d : ℕ} (p : Multiple) {q : Multiple} → Located ws c d None q → collected before between after p q ≡ refused
+  unfolding collected
+  no_second no_multiple missing = refl
+  no_second (multiple f s) missing = refl

@@ -17,10 +17,13 @@ use Rattle.rules.specs.Rewrite.{merge_at, rewrite}
 use Rattle.rules.specs.Steps.{few}
 use Rattle.rules.proofs.Known.{is_head_lem}
 use Rattle.rules.proofs.Formed.{formed-few*}
-use Rattle.families.specs.Code.Children.{Under, fits, child_in, no_child}
+use Rattle.families.specs.Code.Children.{Under, fits, child_in}
+use Rattle.std.specs.Prelude.{Some, None, Err}
+use Rattle.families.specs.declared.writing.Refusal.TheVariants.{TooBig}
 use Rattle.families.specs.declared.children.Child.{Child}
 use Rattle.families.specs.Writing.{Writes}
 use Rattle.families.specs.Code.Families.{chain_word, Named}
+use Rattle.families.proofs.Whole.{whole}
 use Rattle.families.proofs.Split.{root, first_word, Split, child-bounds, before-run, inside-child, before-formed, child-formed, after-formed}
 use Rattle.rules.proofs.Decided.{chain-nameless}
 use Rattle.families.proofs.Heads.{head_number_lem, chain_of, chain-word}
@@ -34,47 +37,39 @@ unfolding rewrite
 merges_other Γ i w e = let r = root w in rw (r.tree, root_chain r ∙ e)
 
 -- ---- or it is, and the child's head is compared with its own
-pub record Merging (ws : List ℕ) (i : ℕ) (r : Child) : Type 0 where
-  pub whole : Whole ws
-  pub chained : chain_word (get_or ws 0 0) ≡ true
-  pub under : Under ws (get_or ws 0 0 / 256) i (get_or ws 0 0 / 256) r
-
-module _ {ws : List ℕ} {i : ℕ} {r : Child} (m : Merging ws i r) where
-  abbrev w : Whole ws
-  w = m.whole
-
+module _ {ws : List ℕ} (w : Whole ws) (k : chain_word (get_or ws 0 0) ≡ true) where
   abbrev l : Label
   l = (root w).label
 
   chain : ACSymbol l
-  chain = chain_of l (root w).children (root w).formed (rw (first_word (root w)) at m.chained)
+  chain = chain_of l (root w).children (root w).formed (rw (first_word (root w)) at k)
 
   pub own : Named (get_or ws 0 0 / 256) l
   own = record { number = rw (first_word (root w)) (head_number_lem l _ (chain-nameless chain) (formed-count l _ (root w).formed)); nameless = chain-nameless chain }
 
-  pub merges-none : (Γ : Context) → r.there ≡ false → rewrite Γ merging i 0 (tree_in (parse ws)) ≡ refused
+  pub merges-none : (Γ : Context) {i : ℕ} → Under ws (get_or ws 0 0 / 256) i (get_or ws 0 0 / 256) None → rewrite Γ merging i 0 (tree_in (parse ws)) ≡ refused
   unfolding rewrite merge_at
-  merges-none Γ =
-      none-under w m.under own own (merge_at l) refl (λ b c f a z. rw z) (rewrite Γ merging i 0)
+  merges-none Γ {i} e =
+      none-under w e own own (merge_at l) refl (λ b c f a z. rw z) (rewrite Γ merging i 0)
       (λ c f z.
       let t : node l (root w).children ≡ node c f = sym (root w).tree ∙ z in
       let x : c ≡ l = cc in
       let y : f ≡ (root w).children = cc in
-      rw (x, y, root_chain (root w) ∙ m.chained, is_head_lem l))
+      rw (x, y, root_chain (root w) ∙ k, is_head_lem l))
 
-  module _ (t : r.there ≡ true) where
+  module _ {i : ℕ} {r : Child} (e : Under ws (get_or ws 0 0 / 256) i (get_or ws 0 0 / 256) (Some r)) where
     abbrev s : Split ws i r.start r.end
-    s = found w m.under t
+    s = found w e
 
     u : Fit s l l
-    u = under w m.under own own t s
+    u = under w e own own s
 
     abbrev all : Forest
     all = s.before ⧺ s.below ⧺ s.after
 
     pub merges-child : (Γ : Context) → rewrite Γ merging i 0 (tree_in (parse ws)) ≡ some (node l all)
     unfolding rewrite merge_at
-    merges-child Γ = rw (s.tree, parent_is_chain s m.chained, s.child, ← u.child, ← u.parent, is_head_lem l)
+    merges-child Γ = rw (s.tree, parent_is_chain s k, s.child, ← u.child, ← u.parent, is_head_lem l)
 
     pub child-inside : (1 ≤ r.start) × (r.start < r.end) × (r.end ≤ length ws)
     child-inside = child-bounds s
@@ -110,10 +105,8 @@ module _ {ws : List ℕ} {i : ℕ} {r : Child} (m : Merging ws i r) where
         rw (before-run s, inside-child s, words*-⧺ s.before, words*-⧺ s.below, more)
 
 -- the refusal of too many, by what the code is told of the child
-pub too_many : (Γ : Context) (ws out : List ℕ) (i : ℕ) → Whole ws → chain_word (get_or ws 0 0) ≡ true
+pub too_many : (Γ : Context) (ws out : List ℕ) (i : ℕ) (r : Child) → ∥ Whole ws ∥₁ → chain_word (get_or ws 0 0) ≡ true
     → let k = get_or ws 0 0 / 256 in
-    let r = cond (fits ws k k (child_in ws i)) (child_in ws i) no_child in
-    r.there ≡ true → 256 < get_or ws 0 0 % 256 + get_or ws r.start 0 % 256
-    → Writes (rewrite Γ merging i 0 (tree_in (parse ws))) out out (record { code = 23; end = 0 })
-too_many Γ ws out i w e t h =
-    let m : Merging ws i _ = record { whole = w; chained = e; under = record { is = refl } } in exceeds _ _ (merges-child m t Γ) (merged_many m t h)
+    Some r ≡ cond (fits ws k k (child_in ws i)) (child_in ws i) None → 256 < get_or ws 0 0 % 256 + get_or ws r.start 0 % 256
+    → Writes (rewrite Γ merging i 0 (tree_in (parse ws))) out out (Err TooBig)
+too_many Γ ws out i r w k is h = let e : Under ws (get_or ws 0 0 / 256) i (get_or ws 0 0 / 256) (Some r) = record { is = is } in exceeds _ _ (merges-child (whole w) k e Γ) (merged_many (whole w) k e h)

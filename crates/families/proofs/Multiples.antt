@@ -2,6 +2,7 @@
 use mathlib.Core.Path.{◌≡◌, refl, sym, ◌∙◌, ap}
 use mathlib.Core.Logic.{◌≢◌}
 use mathlib.Core.Bool.{Bool, true, false, cond}
+use Rattle.std.specs.Prelude.{Option as Found, Some, None}
 use mathlib.Core.List.{List, [], ◌∷◌, ◌++◌, append_assoc, append-nil}
 use Prim.Native.Nat.{ℕ, ◌+◌, ◌-◌, ◌≤◌}
 use native.Mathlib.Omega.{arith}
@@ -13,35 +14,27 @@ use Rattle.term.specs.Heads.{Label, scalar_one, scale, word, heads, labelled, re
 use Rattle.term.specs.Trees.{Tree, Forest, node, none, ◌▹◌, count, words, words*, Formed, Formed*}
 use Rattle.term.specs.Parts.{part}
 use Rattle.term.proofs.Scan.{whole_part}
-use Rattle.rules.specs.Table.{Summand, plain, scaled}
+use Rattle.rules.specs.Table.{plain, scaled}
 use Rattle.rules.specs.Rewrite.{is_head, Multiple, no_multiple, multiple, multiple_of}
 use Rattle.rules.specs.Steps.{few}
 use Rattle.rules.proofs.Known.{is_head_lem}
 use Rattle.rules.proofs.Formed.{formed-few}
-use Rattle.rulebook.specs.Code.Rows.{summand_number}
+use Rattle.families.specs.Code.Children.{x_in}
+use Rattle.families.specs.Code.Families.{summand_of}
 use Rattle.families.proofs.Split.{Split, child-word, child-run, inside-child, child-bounds, child-formed}
-
--- the form that a number asks for: any but 0 is taken for 1
-abbrev pub summand_of : ℕ → Summand
-summand_of n = cond (eqb n 0) plain scaled
-
-pub summand_of_lem : (u : Summand) {n : ℕ} → n ≡ summand_number u → summand_of n ≡ u
-summand_of_lem plain e = rw e
-summand_of_lem scaled e = rw e
 
 -- the words of the factor, where X begins at x: those between, or 1
 abbrev pub factor_run : List ℕ → ℕ → ℕ → List ℕ
 factor_run ws start x = cond (eqb x start) (1536 ∷ []) (take (x - (start + 1)) (drop (start + 1) ws))
 
--- x is where the code says that X begins: 0, and the summand is not of the form that is wanted; or these are its factor and its X
-pub data Located (ws : List ℕ) (start end x : ℕ) : Multiple → Type 0 where
-  missing : x ≡ 0 → Located ws start end x no_multiple
-  located : (f t : Tree) → few f ≡ true → few t ≡ true → (start ≤ x) × (x ≤ end) → factor_run ws start x ≡ words f → take (end - x) (drop x ws) ≡ words t
-      → Located ws start end x (multiple f t)
+-- where the code says that X begins: nowhere, and the summand is not of the form that is wanted; or at x, and these are its factor and its X
+pub data Located (ws : List ℕ) (start end : ℕ) : Found ℕ → Multiple → Type 0 where
+  missing : Located ws start end None no_multiple
+  located : {x : ℕ} (f t : Tree) → few f ≡ true → few t ≡ true → (start ≤ x) × (x ≤ end) → factor_run ws start x ≡ words f → take (end - x) (drop x ws) ≡ words t
+      → Located ws start end (Some x) (multiple f t)
 
-pub located_end : {ws : List ℕ} {start end x : ℕ} {m : Multiple} → Located ws start end x m → x ≤ end
-located_end (missing e) = omega arith
-located_end (located f t p q b r o) = b.1
+pub located_bounds : {ws : List ℕ} {start end x : ℕ} {m : Multiple} → Located ws start end (Some x) m → (start ≤ x) × (x ≤ end)
+located_bounds (located f t p q b r o) = b
 
 -- ---- a summand a.X is known by its word, which is 19:0
 two-trees : (f : Forest) → count f ≡ 2 → (a : Tree) × (x : Tree) × (f ≡ a ▹ x ▹ none)
@@ -75,12 +68,12 @@ unfolding words word
 one-words = refl
 
 module _ {ws : List ℕ} {i start end : ℕ} (s : Split ws i start end) where
-  -- a child in the form that the number n asks for
-  abbrev pub Sought : ℕ → ℕ → Type 0
-  Sought n x = Located ws start end x (multiple_of (summand_of n) (node s.label s.below))
+  -- a child in the form that is asked for
+  abbrev pub Sought : Bool → Found ℕ → Type 0
+  Sought b x = Located ws start end x (multiple_of (summand_of b) (node s.label s.below))
 
   -- ---- X itself
-  located_plain : Located ws start end start (multiple_of plain (node s.label s.below))
+  located_plain : Located ws start end (Some start) (multiple_of plain (node s.label s.below))
   unfolding multiple_of
   located_plain =
       let b = child-bounds s in
@@ -110,30 +103,29 @@ module _ {ws : List ℕ} {i start end : ℕ} (s : Split ws i start end) where
         let m = ap length (append-nil (words x)) in
         omega (arith, s.ends, length-append (words a) (words x ++ []))
 
-    located_x : Located ws start end (start + 1 + length (words a)) (multiple a x)
+    located_x : Located ws start end (Some (start + 1 + length (words a))) (multiple a x)
     located_x =
         let p = start + 1 + length (words a) in
         let between : take (p - (start + 1)) (drop (start + 1) ws) ≡ words a = rw factor_on (take_at (words a) _ (p - (start + 1)) (omega arith)) in
         let rest : take (end - p) (drop p ws) ≡ words x = rw x_on (take_at (words x) _ (end - p) (omega (arith, x_ends))) in
         located a x (formed-few a both-formed.0) (formed-few x both-formed.1) (omega (arith, x_ends)) (rw (ne_eqb p start (omega arith)) between) rest
 
-    located_by : s.label ≡ scale → Located ws start end (start + 1 + length (part ws (start + 1))) (multiple_of scaled (node s.label s.below))
+    located_by : s.label ≡ scale → Located ws start end (Some (start + 1 + length (part ws (start + 1)))) (multiple_of scaled (node s.label s.below))
     located_by l = rw (factor-part, l, e, a_scale a x) located_x
 
-  located_scaled : get_or ws start 0 ≡ 4864 → Located ws start end (start + 1 + length (part ws (start + 1))) (multiple_of scaled (node s.label s.below))
+  located_scaled : get_or ws start 0 ≡ 4864 → Located ws start end (Some (start + 1 + length (part ws (start + 1)))) (multiple_of scaled (node s.label s.below))
   located_scaled e =
       let z = scale-word s.label s.below (child-formed s) (sym (child-word s) ∙ e) in
       let two = two-trees s.below (cc) in located_by two.0 two.1 two.2 (cc)
 
   -- ---- what `x_of` answers
-  by_word : (b : Bool) → eqb (get_or ws start 0) 4864 ≡ b → Located ws start end (cond b (start + 1 + length (part ws (start + 1))) 0) (multiple_of scaled (node s.label s.below))
+  by_word : (b : Bool) → eqb (get_or ws start 0) 4864 ≡ b → Located ws start end (cond b (Some (start + 1 + length (part ws (start + 1)))) None) (multiple_of scaled (node s.label s.below))
   by_word true e = located_scaled (eqb-true _ _ e)
-  by_word false e = rw (no_scale s.label s.below (λ w. eqb-false _ _ e (child-word s ∙ w))) (missing refl)
+  by_word false e = rw (no_scale s.label s.below (λ w. eqb-false _ _ e (child-word s ∙ w))) missing
 
-  by_number : (b : Bool) → Located ws start end (cond b start (cond (eqb (get_or ws start 0) 4864) (start + 1 + length (part ws (start + 1))) 0))
-      (multiple_of (cond b plain scaled) (node s.label s.below))
-  by_number true = located_plain
-  by_number false = by_word (eqb (get_or ws start 0) 4864) refl
+  by_form : (b : Bool) → Sought b (x_in ws start b)
+  by_form false = located_plain
+  by_form true = by_word (eqb (get_or ws start 0) 4864) refl
 
-  pub locate : (n : ℕ) {x : ℕ} → x ≡ cond (eqb n 0) start (cond (eqb (get_or ws start 0) 4864) (start + 1 + length (part ws (start + 1))) 0) → Sought n x
-  locate n h = rw h (by_number (eqb n 0))
+  pub locate : (b : Bool) {x : Found ℕ} → x ≡ x_in ws start b → Sought b x
+  locate b h = rw h (by_form b)

@@ -1,7 +1,7 @@
 -- Two children of a part, i and j with i < j, and the children between them.
 use mathlib.Core.Path.{◌≡◌, refl, sym, ◌∙◌, ap}
-use mathlib.Core.Bool.{true}
 use mathlib.Core.List.{List}
+use Rattle.std.specs.Prelude.{Some}
 use Prim.Native.Nat.{ℕ, zero, suc, ◌+◌, ◌-◌, ◌≤◌, ◌<◌}
 use native.Mathlib.Omega.{arith}
 use lib.ListN.{length, take, drop, length-append}
@@ -11,7 +11,7 @@ use Rattle.term.specs.Parts.{Whole}
 use Rattle.term.proofs.Parsing.{words*-⧺, Formed*-⧺}
 use Rattle.rules.specs.Rewrite.{opened, behind, open_at}
 use Rattle.families.specs.declared.children.Child.{Child}
-use Rattle.families.specs.Code.Children.{kids, child_of, child_in}
+use Rattle.families.specs.Code.Children.{child_in}
 use Rattle.families.proofs.Split.{Split, split, behind-child, child-bounds, after-formed}
 
 -- ---- a child of the first of two rows, in that row and in both
@@ -40,12 +40,7 @@ pub record Pair (ws : List ℕ) (i j a b c d : ℕ) : Type 0 where
   pub front : second.before ≡ first.before ⧺ node first.label first.below ▹ between
   back : first.after ≡ between ⧺ node second.label second.below ▹ second.after
 
--- child i is there since child j is, and both see the same row
-first-there : {ws : List ℕ} {i j c d : ℕ} {p : Child} (s : Split ws j c d) → Within s.before (node s.label s.below ▹ s.after) i
-    → p ≡ child_in ws i → p.there ≡ true
-unfolding kids child_of
-first-there s o e = rw (e, s.tree, o.both)
-
+-- both see the same row
 paired : {ws : List ℕ} {i j a b c d : ℕ} (f : Split ws i a b) (s : Split ws j c d) → Within s.before (node s.label s.below ▹ s.after) i → Pair ws i j a b c d
 paired {i} f s o =
     let row : f.before ⧺ node f.label f.below ▹ f.after ≡ s.before ⧺ node s.label s.below ▹ s.after = cc (f.tree, s.tree) in
@@ -53,13 +48,12 @@ paired {i} f s o =
     sym f.child ∙ ap (λ (g : Forest). open_at g i) row ∙ o.both in
     record { first = f; second = s; between = o.after; opens = cc o.here; front = cc o.row; back = cc }
 
--- what `child_at` answers for both, of which the second is there
-pub pair : {ws : List ℕ} {i j : ℕ} {p q : Child} → Whole ws → i < j → p ≡ child_in ws i
-    → q ≡ child_in ws j → q.there ≡ true → Pair ws i j p.start p.end q.start q.end
-pair {i} w l e e' t =
-    let s = split w e' t in
+-- what `child_at` answers for both
+pub pair : {ws : List ℕ} {i j : ℕ} {p q : Child} → Whole ws → i < j → Some p ≡ child_in ws i → Some q ≡ child_in ws j → Pair ws i j p.start p.end q.start q.end
+pair {i} w l e e' =
+    let s = split w e' in
     let o = within s.before (node s.label s.below ▹ s.after) i (omega (arith, s.number)) in
-    paired (split w e (first-there s o e)) s o
+    paired (split w e) s o
 
 module _ {ws : List ℕ} {i j a b c d : ℕ} (p : Pair ws i j a b c d) where
   -- the children between stand from b up to c

@@ -1,6 +1,6 @@
 -- Removing child i: what `rewrite` answers, by the tests of the code.
 use mathlib.Core.Path.{◌≡◌, refl}
-use mathlib.Core.Bool.{true, false, cond, and-false}
+use mathlib.Core.Bool.{true, cond, and-false}
 use mathlib.Core.List.{List, ◌∷◌, ◌++◌}
 use mathlib.Core.Option.{some, none as refused}
 use Prim.Native.Nat.{ℕ, ◌+◌, ◌-◌, ◌*◌, ◌%◌, ◌≤◌, ◌<◌}
@@ -17,29 +17,32 @@ use Rattle.rules.specs.Rewrite.{remove_at, rewrite}
 use Rattle.rules.specs.Steps.{few}
 use Rattle.rules.proofs.Known.{is_head_lem}
 use Rattle.rules.proofs.Formed.{formed-few*}
-use Rattle.families.specs.Code.Children.{Under, fits, child_in, no_child}
+use Rattle.families.specs.Code.Children.{Under, fits, child_in}
+use Rattle.std.specs.Prelude.{Some, None, Err}
+use Rattle.families.specs.declared.writing.Refusal.TheVariants.{NoInstance}
 use Rattle.families.specs.declared.children.Child.{Child}
 use Rattle.rulebook.specs.Code.Rows.{head_number}
 use Rattle.families.specs.Writing.{Writes}
 use Rattle.families.specs.Code.Families.{Counted, Named}
+use Rattle.families.proofs.Whole.{whole}
 use Rattle.families.proofs.Split.{Split, before-run, behind-child, before-formed, after-formed}
 use Rattle.families.proofs.Heads.{chain-word}
 use Rattle.families.proofs.Tested.{cond_same, named, chain_parent, siblings_few, Fit, found, under, none-under}
 use Rattle.families.proofs.Few.{few*-⧺, few-node}
 use Rattle.families.proofs.Written.{refuses}
 
-module _ (Γ : Context) {l c : Label} {parent child : ℕ} (P : Counted parent l) (N : Named child c) {ws : List ℕ} {i : ℕ} {r : Child} (w : Whole ws) (e : Under ws parent i child r) where
+module _ (Γ : Context) {l c : Label} {parent child : ℕ} (P : Counted parent l) (N : Named child c) {ws : List ℕ} {i : ℕ} (w : Whole ws) where
   -- the part has another head, no such child, or one with another head
-  pub removes-none : r.there ≡ false → rewrite Γ (removing l c) i 0 (tree_in (parse ws)) ≡ refused
+  pub removes-none : Under ws parent i child None → rewrite Γ (removing l c) i 0 (tree_in (parse ws)) ≡ refused
   unfolding rewrite remove_at
-  removes-none = none-under w e (named P) N (remove_at l c) refl (λ b m f a z. rw z) (rewrite Γ (removing l c) i 0) (λ m f z. refl)
+  removes-none e = none-under w e (named P) N (remove_at l c) refl (λ b m f a z. rw z) (rewrite Γ (removing l c) i 0) (λ m f z. refl)
 
-  module _ (t : r.there ≡ true) where
+  module _ {r : Child} (e : Under ws parent i child (Some r)) where
     abbrev s : Split ws i r.start r.end
-    s = found w e t
+    s = found w e
 
     u : Fit s l c
-    u = under w e (named P) N t s
+    u = under w e (named P) N s
 
     abbrev others : Forest
     others = s.before ⧺ s.after
@@ -74,7 +77,7 @@ module _ (Γ : Context) {l c : Label} {parent child : ℕ} (P : Counted parent l
         few-node l others (omega (arith, siblings_few s)) (few*-⧺ s.before s.after (formed-few* s.before (before-formed s)) (formed-few* s.after (after-formed s)))
 
 -- the refusal at the only child, by what the code is told of it
-pub only_child : (Γ : Context) (l c : Label) (ws out : List ℕ) (i : ℕ) → Counted (head_number l) l → Named (head_number c) c → Whole ws
-    → (cond (fits ws (head_number l) (head_number c) (child_in ws i)) (child_in ws i) no_child).there ≡ true → get_or ws 0 0 % 256 < 2
-    → Writes (rewrite Γ (removing l c) i 0 (tree_in (parse ws))) out out (record { code = 22; end = 0 })
-only_child Γ l c ws out i P N w t h = refuses _ (removes_only Γ P N w (record { is = refl }) t h)
+pub only_child : (Γ : Context) (l c : Label) (ws out : List ℕ) (i : ℕ) (r : Child) → Counted (head_number l) l → Named (head_number c) c → ∥ Whole ws ∥₁
+    → Some r ≡ cond (fits ws (head_number l) (head_number c) (child_in ws i)) (child_in ws i) None → get_or ws 0 0 % 256 < 2
+    → Writes (rewrite Γ (removing l c) i 0 (tree_in (parse ws))) out out (Err NoInstance)
+only_child Γ l c ws out i r P N w e h = refuses _ (removes_only Γ P N (whole w) {r = r} (record { is = e }) h)

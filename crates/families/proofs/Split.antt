@@ -1,7 +1,7 @@
 -- A whole part, and the part with one of its children: where the child's words stand in the part's.
 use mathlib.Core.Path.{◌≡◌, refl, sym, ◌∙◌, ap}
-use mathlib.Core.Bool.{true, false}
 use mathlib.Core.List.{List, ◌∷◌, ◌++◌, append_assoc}
+use Rattle.std.specs.Prelude.{Some, None}
 use Prim.Native.Nat.{ℕ, ◌+◌, ◌-◌, ◌≤◌, ◌<◌}
 use native.Mathlib.Omega.{arith}
 use lib.ListN.{length, take, drop, get_or, length-append}
@@ -50,18 +50,21 @@ pub record Split (ws : List ℕ) (i start end : ℕ) : Type 0 where
   pub ends : end ≡ start + length (words (node label below))
 
 -- what `child_at` answers: there is no such child, or the part is split at it
-outside_by : {f : Forest} {i : ℕ} {o : Opened} → At f i o → (child_of o).there ≡ false → o ≡ outside
+outside_by : {f : Forest} {i : ℕ} {o : Opened} → At f i o → None ≡ child_of o → o ≡ outside
 unfolding child_of
 outside_by (too_far h) e = refl
-outside_by (there b t a k n) e = absurd (let z : ◌≡◌ {A = ℕ} 0 1 = cc in omega arith)
+outside_by (there b t a k n) e = cc
 
-pub no_child_lem : {r : Child} (f : Forest) (i : ℕ) → r ≡ child_of (open_at f i) → r.there ≡ false → open_at f i ≡ outside
-no_child_lem f i e h = outside_by (at f i) (cc)
+pub no_child : (f : Forest) (i : ℕ) → None ≡ child_of (open_at f i) → open_at f i ≡ outside
+no_child f i e = outside_by (at f i) e
 
-split_by : {ws : List ℕ} {i : ℕ} {o : Opened} {c : Child} (r : Root ws) → At r.children i o → open_at r.children i ≡ o → c ≡ child_of o → c.there ≡ true → Split ws i c.start c.end
+some_same : {c d : Child} → Some c ≡ Some d → c ≡ d
+some_same e = cc
+
+split_by : {ws : List ℕ} {i : ℕ} {o : Opened} {c : Child} (r : Root ws) → At r.children i o → open_at r.children i ≡ o → Some c ≡ child_of o → Split ws i c.start c.end
 unfolding child_of words
-split_by r (too_far h) q e t = absurd (let z : ◌≡◌ {A = ℕ} 0 1 = cc in omega arith)
-split_by {c} r (there b (node l f) a k n) q e t =
+split_by r (too_far h) q e = absurd (let z : ◌≡◌ {A = ℕ} 0 1 = cc in omega arith)
+split_by {c} r (there b (node l f) a k n) q e =
     record {
       parent = r.label;
       before = b;
@@ -73,16 +76,16 @@ split_by {c} r (there b (node l f) a k n) q e t =
       child = rw (← k) q;
       number = n;
       whole = rw (r.whole, k, words*-⧺);
-      begins = ap (λ (x : Child). x.start) e;
-      ends = cc;
+      begins = ap (λ (x : Child). x.start) (some_same e);
+      ends = ap (λ (x : Child). x.end) (some_same e) ∙ ap (λ (n : ℕ). n + length (words (node l f))) (sym (ap (λ (x : Child). x.start) (some_same e)));
     }
 
-pub split : {ws : List ℕ} {i : ℕ} {c : Child} → Whole ws → c ≡ child_in ws i → c.there ≡ true → Split ws i c.start c.end
+pub split : {ws : List ℕ} {i : ℕ} {c : Child} → Whole ws → Some c ≡ child_in ws i → Split ws i c.start c.end
 unfolding kids
-split {ws} {i} {c} w e t =
+split {ws} {i} {c} w e =
     let r = root w in
-    let e' : c ≡ child_of (open_at r.children i) = rw r.tree at e in
-    split_by r (at r.children i) refl e' t
+    let e' : Some c ≡ child_of (open_at r.children i) = rw r.tree at e in
+    split_by r (at r.children i) refl e'
 
 -- ---- a row of trees without words is empty
 pub no_words : (f : Forest) → length (words* f) ≡ 0 → f ≡ none

@@ -1,7 +1,8 @@
 -- Spreading over child k, a sum: what `rewrite` answers, by the tests of the code.
 use mathlib.Core.Path.{◌≡◌, refl}
-use mathlib.Core.Bool.{true, false, and-eq-true_iff}
+use mathlib.Core.Bool.{true, and-eq-true_iff}
 use mathlib.Core.List.{List, ◌∷◌, ◌++◌, append_assoc, append-nil}
+use Rattle.std.specs.Prelude.{Some, None}
 use mathlib.Core.Option.{some, none as refused}
 use Prim.Native.Nat.{ℕ, ◌+◌, ◌*◌, ◌%◌, ◌≤◌}
 use native.Mathlib.Omega.{arith}
@@ -43,15 +44,15 @@ module _ (l : Label) (b a : Forest) where
       let n : count (b ⧺ t ▹ a) ≤ 255 = omega (arith, count-⧺ b (t ▹ a)) in
       few*-▹ (node l (b ⧺ t ▹ a)) (spread l b f a) (few-node l (b ⧺ t ▹ a) n (few*-⧺ b (t ▹ a) p (few*-▹ t a x.0 r))) (spread-few f h p x.1 r)
 
-module _ {l s : Label} {k parent sum : ℕ} (P : Named parent l) (S : Counted sum s) {ws : List ℕ} {c : Child} (v : Whole ws) (z : Under ws parent k sum c) where
+module _ {l s : Label} {k parent sum : ℕ} (P : Named parent l) (S : Counted sum s) {ws : List ℕ} (v : Whole ws) where
   -- the part has another head, no such child, or one that is no such sum
-  pub spreads-none : (Γ : Context) (r : Label) (w : Which) (i : ℕ) → usable w i ≡ true → place w i ≡ k → c.there ≡ false → rewrite Γ (spreading l w s r) i 0 (tree_in (parse ws)) ≡ refused
+  pub spreads-none : (Γ : Context) (r : Label) (w : Which) (i : ℕ) → usable w i ≡ true → place w i ≡ k → Under ws parent k sum None → rewrite Γ (spreading l w s r) i 0 (tree_in (parse ws)) ≡ refused
   unfolding rewrite spread_at
-  spreads-none Γ r w i u e = none-under v z P (named S) (spread_at l s r) refl (λ b m f a n. rw n) (rewrite Γ (spreading l w s r) i 0) (λ m f n. rw (u, e))
+  spreads-none Γ r w i u e z = none-under v z P (named S) (spread_at l s r) refl (λ b m f a n. rw n) (rewrite Γ (spreading l w s r) i 0) (λ m f n. rw (u, e))
 
-  module _ (t : c.there ≡ true) (p : Split ws k c.start c.end) where
+  module _ {c : Child} (z : Under ws parent k sum (Some c)) (p : Split ws k c.start c.end) where
     x : Fit p l s
-    x = under v z P (named S) t p
+    x = under v z P (named S) p
 
     -- it is, and the part becomes the sum of the nodes over each summand: each with the summand in the child's place
     abbrev pub nodes : Forest

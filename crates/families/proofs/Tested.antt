@@ -1,7 +1,8 @@
 -- What the code's tests of a part's first word, and of its child's, say of their heads and of the number of their children.
-use mathlib.Core.Path.{◌≡◌, refl, sym, ◌∙◌, ap}
+use mathlib.Core.Path.{◌≡◌, refl, sym, ◌∙◌}
 use mathlib.Core.Logic.{◌≢◌}
-use mathlib.Core.Bool.{Bool, true, false, cond, ◌&&◌, and-false, true≢false}
+use mathlib.Core.Bool.{Bool, true, false, cond, ◌&&◌, and-false, and-eq-true_iff}
+use Rattle.std.specs.Prelude.{Option as Found, Some, None}
 use mathlib.Core.List.{List}
 use mathlib.Core.Option.{Option, none as refused}
 use Prim.Native.Nat.{ℕ, ◌+◌, ◌*◌, ◌/◌, ◌≤◌}
@@ -15,12 +16,11 @@ use Rattle.term.specs.Parts.{Whole, parse, tree_in}
 use Rattle.term.proofs.Parsing.{count-⧺}
 use Rattle.rules.specs.Instances.{ACSymbol}
 use Rattle.rules.specs.Rewrite.{is_head, is_chain, is_loose, Opened, outside, opened, open_at}
-use Rattle.families.specs.Code.Children.{no_child, kids, child_in, fits, Under}
+use Rattle.families.specs.Code.Children.{kids, child_in, fits, Under}
 use Rattle.rulebook.specs.Code.Rows.{head_number}
 use Rattle.families.specs.Code.Families.{chain_word, loose_word, Named, Counted}
 use Rattle.families.specs.declared.children.Child.{Child}
-use Rattle.rules.proofs.Good.{all_three}
-use Rattle.families.proofs.Split.{Root, root, first_word, no_child_lem, Split, split, parent_word, child-word, child-formed}
+use Rattle.families.proofs.Split.{Root, root, first_word, no_child, Split, split, parent_word, child-word, child-formed}
 use Rattle.families.proofs.Few.{formed-count}
 use Rattle.rules.proofs.Decided.{chain-nameless}
 use Rattle.families.proofs.Heads.{same_head, head_test, other_head, chain_test, loose_test, chain-word}
@@ -90,13 +90,13 @@ pub record Fit {ws : List ℕ} {i start end : ℕ} (s : Split ws i start end) (l
   pub parent : l ≡ s.parent
   pub child : c ≡ s.label
 
-taken : (b : Bool) (c : Child) {r : Child} → r ≡ cond b c no_child → r.there ≡ true → (b ≡ true) × (r ≡ c)
-taken true c e t = (refl, e)
-taken false c e t = absurd (true≢false (sym t ∙ ap (λ (x : Child). x.there) e))
+taken : (b : Bool) (o : Found Child) {c : Child} → Some c ≡ cond b o None → (b ≡ true) × (Some c ≡ o)
+taken true o e = (refl, e)
+taken false o e = cc
 
-not_taken : (b : Bool) (c : Child) {r : Child} → r ≡ cond b c no_child → r.there ≡ false → c.there ≡ true → b ≡ false
-not_taken true c e f t = absurd (true≢false (sym t ∙ ap (λ (x : Child). x.there) (sym e) ∙ f))
-not_taken false c e f t = refl
+not_taken : (b : Bool) (c : Child) → None ≡ cond b (Some c) None → b ≡ false
+not_taken true c e = cc
+not_taken false c e = refl
 
 -- of two tests one fails
 one-fails : (a b : Bool) {x : Option Tree} → a && b ≡ false → (b ≡ false → x ≡ refused) → cond a x refused ≡ refused
@@ -104,52 +104,55 @@ one-fails true b e h = h e
 one-fails false b e h = refl
 
 -- by the tests, one after the other
-pub other_parent : {ws : List ℕ} {parent i child : ℕ} → get_or ws 0 0 / 256 ≢ parent → Under ws parent i child no_child
-other_parent {ws} {parent} h = record { is = rw (ne_eqb (get_or ws 0 0 / 256) parent h) }
+other_by : (ws : List ℕ) (parent child : ℕ) (o : Found Child) → eqb (get_or ws 0 0 / 256) parent ≡ false → None ≡ cond (fits ws parent child o) o None
+other_by ws parent child None h = refl
+other_by ws parent child (Some c) h = rw h
 
-module _ {ws : List ℕ} {parent i child : ℕ} {c : Child} (e : c ≡ child_in ws i) where
-  pub no_such : c.there ≡ false → Under ws parent i child no_child
-  no_such h = let z : (child_in ws i).there ≡ false = cc in record { is = rw (z, and-false) }
+pub other_parent : {ws : List ℕ} {parent i child : ℕ} → get_or ws 0 0 / 256 ≢ parent → Under ws parent i child None
+other_parent {ws} {parent} {i} {child} h = record { is = other_by ws parent child (child_in ws i) (ne_eqb (get_or ws 0 0 / 256) parent h) }
 
-  pub other_child : get_or ws c.start 0 / 256 ≢ child → Under ws parent i child no_child
-  other_child h = record { is = rw (← e, ne_eqb (get_or ws c.start 0 / 256) child h, and-false, and-false) }
+pub no_such : {ws : List ℕ} {parent i child : ℕ} → None ≡ child_in ws i → Under ws parent i child None
+no_such e = record { is = rw (← e) }
 
-  pub both_fit : get_or ws 0 0 / 256 ≡ parent → c.there ≡ true → get_or ws c.start 0 / 256 ≡ child → Under ws parent i child c
-  both_fit p t h =
-      let f : fits ws parent child c ≡ true = rw (eq-eqb (get_or ws 0 0 / 256) parent p, t, eq-eqb (get_or ws c.start 0 / 256) child h) in
+module _ {ws : List ℕ} {parent i child : ℕ} {c : Child} (e : Some c ≡ child_in ws i) where
+  pub other_child : get_or ws c.start 0 / 256 ≢ child → Under ws parent i child None
+  other_child h = record { is = rw (← e, ne_eqb (get_or ws c.start 0 / 256) child h, and-false) }
+
+  pub both_fit : get_or ws 0 0 / 256 ≡ parent → get_or ws c.start 0 / 256 ≡ child → Under ws parent i child (Some c)
+  both_fit p h =
+      let f : fits ws parent child (Some c) ≡ true = rw (eq-eqb (get_or ws 0 0 / 256) parent p, eq-eqb (get_or ws c.start 0 / 256) child h) in
       record { is = rw (← e, f) }
 
-module _ {ws : List ℕ} {parent i child : ℕ} {r : Child} (w : Whole ws) (e : Under ws parent i child r) where
-  as_found : r.there ≡ true → (fits ws parent child (child_in ws i) ≡ true) × (r ≡ child_in ws i)
+module _ {ws : List ℕ} {parent i child : ℕ} {r : Child} (w : Whole ws) (e : Under ws parent i child (Some r)) where
+  as_found : (fits ws parent child (child_in ws i) ≡ true) × (Some r ≡ child_in ws i)
   as_found = taken (fits ws parent child (child_in ws i)) (child_in ws i) e.is
 
-  pub found : r.there ≡ true → Split ws i r.start r.end
-  found t = split w (as_found t).1 t
+  pub found : Split ws i r.start r.end
+  found = split w as_found.1
 
-module _ {ws : List ℕ} {parent i child : ℕ} {r : Child} (w : Whole ws) (e : Under ws parent i child r) {l c : Label} (P : Named parent l) (N : Named child c) where
-  pub under : r.there ≡ true → (s : Split ws i r.start r.end) → Fit s l c
-  under t s =
-      let x = as_found w e t in
-      let y = all_three (eqb (get_or ws 0 0 / 256) parent) (child_in ws i).there (eqb (get_or ws (child_in ws i).start 0 / 256) child) x.0 in
-      let d : get_or ws r.start 0 / 256 ≡ child = ap (λ (k : Child). get_or ws k.start 0 / 256) x.1 ∙ eqb-true (get_or ws (child_in ws i).start 0 / 256) child y.1.1 in
-      record { parent = parent_is s P (eqb-true (get_or ws 0 0 / 256) parent y.0); child = child-is s N d }
+  pub under : {l c : Label} → Named parent l → Named child c → (s : Split ws i r.start r.end) → Fit s l c
+  under P N s =
+      let x : fits ws parent child (Some r) ≡ true = rw (← as_found.1) at as_found.0 in
+      let y = (and-eq-true_iff (eqb (get_or ws 0 0 / 256) parent) (eqb (get_or ws r.start 0 / 256) child)).0 x in
+      record { parent = parent_is s P (eqb-true (get_or ws 0 0 / 256) parent y.0); child = child-is s N (eqb-true (get_or ws r.start 0 / 256) child y.1) }
 
+module _ {ws : List ℕ} {parent i child : ℕ} (w : Whole ws) (e : Under ws parent i child None) {l c : Label} (P : Named parent l) (N : Named child c) where
   -- or a rule that asks for such a child refuses
   module _ (make : Opened → Option Tree) (out : make outside ≡ refused) (other : (b : Forest) (m : Label) (f a : Forest) → is_head c m (count f) ≡ false → make (opened b (node m f) a) ≡ refused)
       (g : Tree → Option Tree) (is : (m : Label) (f : Forest) → tree_in (parse ws) ≡ node m f → g (node m f) ≡ cond (is_head l m (count f)) (make (open_at f i)) refused) where
-    none_by : r.there ≡ false → (b : Bool) → (child_in ws i).there ≡ b → g (tree_in (parse ws)) ≡ refused
+    none_by : (o : Found Child) → o ≡ child_in ws i → g (tree_in (parse ws)) ≡ refused
     unfolding kids
-    none_by h false z =
+    none_by None z =
         let t = root w in
-        let o : open_at t.children i ≡ outside = rw t.tree at (no_child_lem (kids (tree_in (parse ws))) i refl z) in
+        let o : open_at t.children i ≡ outside = rw t.tree at (no_child (kids (tree_in (parse ws))) i z) in
         rw (t.tree, is t.label t.children t.tree, o, out, cond_same)
-    none_by h true z =
-        let s = split w refl z in
-        let f = not_taken (fits ws parent child (child_in ws i)) (child_in ws i) e.is h z in
+    none_by (Some d) z =
+        let s = split w z in
+        let f = not_taken (fits ws parent child (Some d)) d (rw (← z) at e.is) in
         let x = both_tests s P N in
         let all = s.before ⧺ node s.label s.below ▹ s.after in
-        rw (s.tree, is s.parent all s.tree, s.child) (one-fails (is_head l s.parent (count all)) (is_head c s.label (count s.below)) (rw (z, x.0, x.1) at f)
+        rw (s.tree, is s.parent all s.tree, s.child) (one-fails (is_head l s.parent (count all)) (is_head c s.label (count s.below)) (rw (x.0, x.1) at f)
         (other s.before s.label s.below s.after))
 
-    pub none-under : r.there ≡ false → g (tree_in (parse ws)) ≡ refused
-    none-under h = none_by h (child_in ws i).there refl
+    pub none-under : g (tree_in (parse ws)) ≡ refused
+    none-under = none_by (child_in ws i) refl

@@ -1,12 +1,12 @@
 -- Passing the children of a part one by one, up to child i.
 use mathlib.Core.Path.{◌≡◌, refl, ◌∙◌, ap}
-use mathlib.Core.Bool.{true}
 use mathlib.Core.List.{List, ◌++◌}
+use Rattle.std.specs.Prelude.{Option, Some, None}
 use Prim.Native.Nat.{ℕ, suc, ◌+◌, ◌-◌, ◌≤◌, ◌<◌}
 use native.Mathlib.Omega.{arith}
 use lib.ListN.{length, drop, get_or, length-append}
 use lib.Seq.{drop-drop}
-use Rattle.term.specs.declared.heads.Arity.TheVariants.{Unknown, Children}
+use Rattle.std.specs.Prelude.{Some, None}
 use Rattle.term.specs.Heads.{labelled, read, arity_of}
 use Rattle.term.specs.Trees.{Tree, Forest, none, ◌▹◌, count, words, words*, Formed}
 use Rattle.term.specs.Parts.{Whole, parse, first, part}
@@ -15,14 +15,14 @@ use Rattle.term.proofs.Scan.{read_children, read-unknown}
 use Rattle.term.proofs.Extents.{parse-behind}
 use Rattle.rules.specs.Rewrite.{Opened, outside, opened, behind, open_at}
 use Rattle.families.specs.declared.children.Child.{Child}
-use Rattle.families.specs.Code.Children.{no_child, kids, child_of, child_in}
+use Rattle.families.specs.Code.Children.{kids, child_of, child_in}
 use Rattle.rules.proofs.Opening.{open_past}
 use Rattle.families.proofs.Split.{Root, root, first_word}
 
 -- a child of a row that begins at an offset
-unfoldable pub child_from : ℕ → Opened → Child
-child_from from outside = no_child
-child_from from (opened b t a) = record { there = true; start = from + length (words* b); end = from + length (words* b) + length (words t) }
+unfoldable pub child_from : ℕ → Opened → Option Child
+child_from from outside = None
+child_from from (opened b t a) = Some (record { start = from + length (words* b); end = from + length (words* b) + length (words t) })
 
 -- the part's own children begin at 1
 from_one : (o : Opened) → child_of o ≡ child_from 1 o
@@ -41,13 +41,13 @@ root_read : {ws : List ℕ} (r : Root ws) → read (get_or ws 0 0) ≡ labelled 
 unfolding Formed
 root_read r = rw (first_word r) r.formed.0
 
-pub read_first : {ws : List ℕ} → Whole ws → arity_of (get_or ws 0 0) ≡ Unknown → ⊥
+pub read_first : {ws : List ℕ} → Whole ws → arity_of (get_or ws 0 0) ≡ None → ⊥
 read_first {ws} w e =
     let r = root_read (root w) in
     let u = read-unknown (get_or ws 0 0) e in
     let z : ◌≡◌ {A = ℕ} 0 1 = cc in omega arith
 
-children_number : {ws : List ℕ} {n : ℕ} (r : Root ws) → arity_of (get_or ws 0 0) ≡ Children n → n ≡ count r.children
+children_number : {ws : List ℕ} {n : ℕ} (r : Root ws) → arity_of (get_or ws 0 0) ≡ Some n → n ≡ count r.children
 children_number {ws} {n} r e =
     let a = root_read r in
     let b = (read_children (get_or ws 0 0) n e).1 in cc
@@ -63,7 +63,7 @@ pub record Walked (ws : List ℕ) (i n start k : ℕ) : Type 0 where
   left : count (parse (drop start ws)) + k ≡ n
   answer : child_in ws i ≡ child_from start (open_at (parse (drop start ws)) (i - k))
 
-pub walked_none : {ws : List ℕ} {n : ℕ} (i : ℕ) → Whole ws → arity_of (get_or ws 0 0) ≡ Children n → Walked ws i n 1 0
+pub walked_none : {ws : List ℕ} {n : ℕ} (i : ℕ) → Whole ws → arity_of (get_or ws 0 0) ≡ Some n → Walked ws i n 1 0
 unfolding kids
 walked_none {ws} {n} i w e =
     let r = root w in
@@ -76,8 +76,8 @@ walked_none {ws} {n} i w e =
     }
 
 -- there is no child i where the part has no more
-pub walked-past : {ws : List ℕ} {n : ℕ} (i : ℕ) → Whole ws → arity_of (get_or ws 0 0) ≡ Children n → n ≤ i
-    → no_child ≡ child_in ws i
+pub walked-past : {ws : List ℕ} {n : ℕ} (i : ℕ) → Whole ws → arity_of (get_or ws 0 0) ≡ Some n → n ≤ i
+    → None ≡ child_in ws i
 unfolding kids child_of
 walked-past i w e l =
     let r = root w in rw (r.tree, open_past r.children i (omega (arith, children_number r e)))
@@ -103,7 +103,7 @@ walked_more {ws} {start} w l m h = rw h (more_by w l m (parse (drop start ws)) r
 
 -- and child i itself is the next
 here_by : {ws : List ℕ} {i n start k : ℕ} → Walked ws i n start k → i ≤ k → i < n → (f : Forest) → parse (drop start ws) ≡ f
-    → record { there = true; start = start; end = start + length (first f) } ≡ child_in ws i
+    → Some (record { start = start; end = start + length (first f) }) ≡ child_in ws i
 unfolding first count open_at child_from words
 here_by w l m none e = absurd (omega (arith, w.left, ap count e))
 here_by {i} {start} {k} w l m (t ▹ f) e =
@@ -112,6 +112,6 @@ here_by {i} {start} {k} w l m (t ▹ f) e =
     rw (w.answer, e, z, s)
 
 pub walked_here : {ws : List ℕ} {i n start k e : ℕ} → Walked ws i n start k → i ≤ k → i < n → e ≡ start + length (part ws start)
-    → record { there = true; start = start; end = e } ≡ child_in ws i
+    → Some (record { start = start; end = e }) ≡ child_in ws i
 unfolding part
 walked_here {ws} {start} w l m h = rw h (here_by w l m (parse (drop start ws)) refl)

@@ -1,5 +1,5 @@
 -- What a rule of a family makes of the part with which words begin, as the code equals it: what to believe is `Instance` of `rules` Instances, by way of `rewrite`.
-use Rattle.std.specs.Prelude.{◌≡◌, Bool, true, false, cond, ◌||◌, List, ℕ, eqb, ltb, length}
+use Rattle.std.specs.Prelude.{◌≡◌, Bool, true, false, cond, Some, None, Result, Ok, Err, IsOkAnd, IsErrAnd, List, ℕ, length}
 use Rattle.std.proofs.Math.Option.{Option, some, none}
 use Rattle.words.specs.Words.{Added}
 use Rattle.term.specs.Trees.{Tree, Forest, none as no-tree, ◌▹◌, words}
@@ -8,24 +8,34 @@ use Rattle.types.specs.Sorts.{Context}
 use Rattle.rules.specs.Table.{Rule, ◌⇒◌▷◌, spreading, removing, absorbing, merging, collecting, swapping, distributing, rule_of}
 use Rattle.rules.specs.Rewrite.{rewrite}
 use Rattle.rules.specs.Steps.{few}
-use Rattle.families.specs.declared.writing.Rewritten.{Rewritten}
+use Rattle.rulebook.specs.declared.Family.{Family}
+use Rattle.rulebook.specs.declared.Family.TheVariants.{NoRule, Equation, Spread, Remove, Absorb, Merge, Collect, Swap, Distribute}
+use Rattle.families.specs.declared.writing.Refusal.{Refusal}
+use Rattle.families.specs.declared.writing.Refusal.TheVariants as Why
 use Rattle.families.specs.declared.writing.Replaced.{Replaced}
 
--- the families by number: 0 for no rule, 1 for an equation
-unfoldable pub family_number : Option Rule → ℕ
-family_number none = 0
-family_number (some (k ⇒ l ▷ r)) = 1
-family_number (some (spreading l w s r)) = 2
-family_number (some (removing l c)) = 3
-family_number (some absorbing) = 4
-family_number (some merging) = 5
-family_number (some (collecting u v)) = 6
-family_number (some swapping) = 7
-family_number (some distributing) = 8
+-- the family of a rule
+unfoldable pub family_in : Option Rule → Family
+family_in none = NoRule
+family_in (some (k ⇒ l ▷ r)) = Equation
+family_in (some (spreading l w s r)) = Spread
+family_in (some (removing l c)) = Remove
+family_in (some absorbing) = Absorb
+family_in (some merging) = Merge
+family_in (some (collecting u v)) = Collect
+family_in (some swapping) = Swap
+family_in (some distributing) = Distribute
 
 -- every rule but an equation is a family's
 unfoldable pub is_family : Rule → Bool
-is_family r = ltb 1 (family_number (some r))
+is_family (k ⇒ l ▷ r) = false
+is_family (spreading l w s r) = true
+is_family (removing l c) = true
+is_family absorbing = true
+is_family merging = true
+is_family (collecting u v) = true
+is_family swapping = true
+is_family distributing = true
 
 -- a rule of a family at the first of a row of parts
 unfoldable pub at_first : Context → Option Rule → ℕ → ℕ → Forest → Option Tree
@@ -37,29 +47,59 @@ at_first Γ (some rule) i j (t ▹ f) = cond (is_family rule) (rewrite Γ rule i
 unfoldable pub family_of : Context → ℕ → ℕ → ℕ → List ℕ → Option Tree
 family_of Γ n i j ws = at_first Γ (rule_of n) i j (parse ws)
 
--- what is written: a result whose nodes have few children, from the first word on; one that has a node of over 255 is refused with 23
-abbrev pub Wrote : Bool → List ℕ → List ℕ → List ℕ → Rewritten → Type 0
-Wrote true ws out out' r = (r.code ≡ 0) × Added out 0 ws out' r.end
-Wrote false ws out out' r = (r.code ≡ 23) × (r.end ≡ 0) × (out' ≡ out)
+-- the number that each refusal has in every answer
+abbrev pub code_of : Refusal → ℕ
+code_of Why.NoRule = 20
+code_of Why.NoPart = 21
+code_of Why.NoInstance = 22
+code_of Why.TooBig = 23
 
--- Whether a rule may leave a part deeper, by the number of its family: one that removes (3), absorbs (4), merges (5) or exchanges (7) does not
-unfoldable pub deepens_in : ℕ → Bool
-deepens_in f = ltb f 3 || (eqb f 6 || eqb f 8)
+-- what is written: a result whose nodes have few children, from the first word on up to the end that is told; one that has a node of over 255 is refused with 23
+abbrev pub Wrote : Bool → List ℕ → List ℕ → List ℕ → Result ℕ Refusal → Type 0
+Wrote true ws out out' r = IsOkAnd r (λ end. Added out 0 ws out' end)
+Wrote false ws out out' r = IsErrAnd r (λ e. code_of e ≡ 23) × (out' ≡ out)
+
+-- Whether a rule may leave a part deeper, by its family: one that removes, absorbs, merges or exchanges does not
+abbrev pub deepens_in : Family → Bool
+deepens_in NoRule = true
+deepens_in Equation = true
+deepens_in Spread = true
+deepens_in Remove = false
+deepens_in Absorb = false
+deepens_in Merge = false
+deepens_in Collect = true
+deepens_in Swap = false
+deepens_in Distribute = true
 
 unfoldable pub may_deepen : Option Rule → Bool
-may_deepen o = deepens_in (family_number o)
+may_deepen o = deepens_in (family_in o)
 
 -- and whether it leaves the part as deep as it was: one that exchanges does
-unfoldable pub keeps_depth : Option Rule → Bool
-keeps_depth o = eqb (family_number o) 7
+abbrev pub keeps_in : Family → Bool
+keeps_in NoRule = false
+keeps_in Equation = false
+keeps_in Spread = false
+keeps_in Remove = false
+keeps_in Absorb = false
+keeps_in Merge = false
+keeps_in Collect = false
+keeps_in Swap = true
+keeps_in Distribute = false
 
--- what is told of the part, as a lookup hands it back: how many words it has and, where the rule of the number may leave it deeper, how deep it is
+unfoldable pub keeps_depth : Option Rule → Bool
+keeps_depth o = keeps_in (family_in o)
+
+-- what is told of a part that is replaced: how many words it has and, where the rule of the number may leave it deeper, how deep it is
 pub record Measures (n : ℕ) (ws : List ℕ) (r : Replaced) : Type 0 where
   pub size : r.size ≡ length (part ws 0)
-  pub deepens : r.deepens ≡ may_deepen (rule_of n)
-  pub depth : r.depth ≡ cond (may_deepen (rule_of n)) (part_depth ws 0) 0
+  pub depth : r.depth ≡ cond (may_deepen (rule_of n)) (Some (part_depth ws 0)) None
+
+-- and where what was written for it ends
+abbrev pub ends : Result Replaced Refusal → Result ℕ Refusal
+ends (Ok r) = Ok r.end
+ends (Err e) = Err e
 
 -- 22 where the part is no instance; what is refused writes nothing
-unfoldable pub Writes : Option Tree → List ℕ → List ℕ → Rewritten → Type 0
-Writes none out out' r = (r.code ≡ 22) × (r.end ≡ 0) × (out' ≡ out)
+unfoldable pub Writes : Option Tree → List ℕ → List ℕ → Result ℕ Refusal → Type 0
+Writes none out out' r = IsErrAnd r (λ e. code_of e ≡ 22) × (out' ≡ out)
 Writes (some q) out out' r = Wrote (few q) (words q) out out' r

@@ -1,13 +1,12 @@
 // Collecting: two summands of one X become one, with the sum of their factors.
-ghost use Rattle.std.specs.Prelude.{◌≡◌, false, cond, ◌∷◌, ◌++◌, ◌+◌, ◌-◌, ◌≤◌, ◌<◌, eqb, length, take, drop, get_or};
-ghost use Rattle.words.specs.Words.{same_words, Added};
-ghost use Rattle.term.specs.Parts.{Whole, part};
-ghost use Rattle.families.specs.Code.Children.{without_both};
+ghost use Rattle.std.specs.Prelude.{◌≡◌, cond, ◌∷◌, ◌++◌, ◌+◌, ◌-◌, ◌≤◌, ◌<◌, eqb, length, take, drop};
+ghost use Rattle.words.specs.Words.{Added};
+ghost use Rattle.families.specs.Code.Children.{without_both, x_in};
 ghost use Rattle.families.specs.Code.Families.{Collects};
 
-use crate::children::{Child, child_at};
+use crate::children::{Child, Part};
 use crate::numbers::SUM;
-use crate::writing::{NO_INSTANCE, Rewritten};
+use crate::writing::Refusal;
 use term::heads::{SCALAR_ONE, SCALING};
 use term::parts::part_end;
 use words::{append, append_run, append_word, same};
@@ -15,33 +14,18 @@ use words::{append, append_run, append_word, same};
 // The word of the sum that the two factors make: 7:2.
 const SUM_OF_TWO: u16 = 0x0702;
 
-// Where the X of a summand begins: where the summand does if it is to be plain, behind its factor if it is to be a.X, whose word is `SCALING`. No X begins at
-// 0, the answer where it is not of that form.
-fn x_of(ws: &[u16], start: usize, scaled: u16) -> usize
+// Where the X of a summand begins: where the summand does if it is to be plain, and behind its factor if it is to be a.X, whose word is `SCALING`.
+fn x_of(ws: &[u16], start: usize, scaled: bool) -> Option<usize>
     requires { start < length ws.now }
-    ensures { result ≡ cond (eqb scaled 0) start (cond (eqb (get_or ws.now start 0) 4864) (start + 1 + length (part ws.now (start + 1))) 0) }
+    ensures { result ≡ x_in ws.now start scaled }
 {
-    if scaled == 0 {
-        return start;
+    if !scaled {
+        return Some(start);
     }
     if ws[start] != SCALING {
-        return 0;
+        return None;
     }
-    part_end(ws, start + 1)
-}
-
-// Whether both summands have an X, and the same: from `x` up to `ends`, and from `y` up to `last`.
-fn same_x(ws: &[u16], x: usize, ends: usize, y: usize, last: usize) -> bool
-    requires { (x ≤ ends) × (ends ≤ length ws.now) × (y ≤ last) × (last ≤ length ws.now) }
-    ensures { result ≡ cond (eqb x 0) false (cond (eqb y 0) false (same_words (take (ends - x) (drop x ws.now)) (take (last - y) (drop y ws.now)))) }
-{
-    if x == 0 {
-        return false;
-    }
-    if y == 0 {
-        return false;
-    }
-    same(&ws[x..ends], &ws[y..last])
+    Some(part_end(ws, start + 1))
 }
 
 // The factor of a summand that begins at `start`, and its X at `x`: what stands between, or `one` where nothing does.
@@ -77,29 +61,30 @@ fn append_multiple(out: &mut [u16], at: usize, c: &[u16], d: &[u16], x: &[u16]) 
     append(out, both, x)
 }
 
-// 51 to 54: the summands `i` and `j` go, and the new one stands last.
-pub fn collect(ws: &[u16], u: u16, v: u16, i: usize, j: usize, out: &mut [u16]) -> Rewritten
-    requires { Whole ws.now }
-    ensures { Collects ws.now out.old out.new result u v i j }
+// 51 to 54: the summands `i` and `j`, scaled or plain, go, and the new one stands last.
+pub fn collect(
+    part: Part<'_>,
+    i_scaled: bool,
+    j_scaled: bool,
+    i: usize,
+    j: usize,
+    out: &mut [u16],
+) -> Result<usize, Refusal>
+    ensures { Collects part.entry.words.now out.old out.new result i_scaled j_scaled i j }
 {
-    if ws[0] / 256 != SUM || j <= i {
-        return NO_INSTANCE;
+    if part.words[0] / 256 != SUM || j <= i {
+        return Err(Refusal::NoInstance);
     }
-    let second = child_at(ws, j);
-    if !second.there {
-        return NO_INSTANCE;
-    }
-    let first = child_at(ws, i);
-    let x = x_of(ws, first.start, u);
-    let y = x_of(ws, second.start, v);
-    let end = first.end;
-    if !same_x(ws, x, end, y, second.end) {
-        return NO_INSTANCE;
+    let first = part.child(i).ok_or(Refusal::NoInstance)?;
+    let second = part.child(j).ok_or(Refusal::NoInstance)?;
+    let x = x_of(part.words, first.start, i_scaled).ok_or(Refusal::NoInstance)?;
+    let y = x_of(part.words, second.start, j_scaled).ok_or(Refusal::NoInstance)?;
+    if !same(&part.words[x..first.end], &part.words[y..second.end]) {
+        return Err(Refusal::NoInstance);
     }
     let one = [SCALAR_ONE];
-    let c = factor(ws, &one, first.start, x);
-    let d = factor(ws, &one, second.start, y);
-    let kept = append_others(out, ws[0] - 1, ws, first, second);
-    let done = append_multiple(out, kept, c, d, &ws[x..end]);
-    Rewritten { code: 0, end: done }
+    let c = factor(part.words, &one, first.start, x);
+    let d = factor(part.words, &one, second.start, y);
+    let kept = append_others(out, part.words[0] - 1, part.words, first, second);
+    Ok(append_multiple(out, kept, c, d, &part.words[x..first.end]))
 }

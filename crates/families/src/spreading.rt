@@ -1,11 +1,10 @@
 // Spreading: a head over a sum becomes the sum of that head over each of the summands.
 ghost use Rattle.std.specs.Prelude.{◌++◌, ◌-◌, ◌≤◌, ◌<◌, length, take, drop};
 ghost use Rattle.words.specs.Words.{Added};
-ghost use Rattle.term.specs.Parts.{Whole};
 ghost use Rattle.families.specs.Code.Families.{Spreads};
 
-use crate::children::child_under;
-use crate::writing::{NO_INSTANCE, Rewritten};
+use crate::children::Part;
+use crate::writing::Refusal;
 use term::parts::part_end;
 use words::{append_run, append_word};
 
@@ -28,22 +27,27 @@ fn append_around(
 }
 
 // Child `k`, a sum, is spread over.
-pub fn spread(ws: &[u16], parent: u16, k: usize, sum: u16, into: u16, out: &mut [u16]) -> Rewritten
-    requires { Whole ws.now × (into < 256) }
-    ensures { Spreads ws.now out.old out.new result parent k sum into }
+pub fn spread(
+    part: Part<'_>,
+    parent: u16,
+    k: usize,
+    sum: u16,
+    into: u16,
+    out: &mut [u16],
+) -> Result<usize, Refusal>
+    requires { into < 256 }
+    ensures { Spreads part.entry.words.now out.old out.new result parent k sum into }
 {
-    let c = child_under(ws, parent, k, sum);
-    if !c.there {
-        return NO_INSTANCE;
-    }
+    let c = part.child_under(parent, k, sum).ok_or(Refusal::NoInstance)?;
     let start = c.start;
     let end = c.end;
-    let mut done = append_word(out, 0, into * 256 + ws[start] % 256);
+    let mut done = append_word(out, 0, into * 256 + part.words[start] % 256);
     let mut next = start + 1;
+    // no `for` over their number: each summand tells where the next begins, and the last ends where the sum does, so that a count would be one number more
     while next < end {
-        let behind = part_end(ws, next);
-        done = append_around(out, done, ws, start, end, next, behind);
+        let behind = part_end(part.words, next);
+        done = append_around(out, done, part.words, start, end, next, behind);
         next = behind;
     }
-    Rewritten { code: 0, end: done }
+    Ok(done)
 }

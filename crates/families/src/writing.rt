@@ -1,23 +1,38 @@
 // What a rewriting answers.
+ghost use Rattle.std.specs.Prelude.{◌≡◌};
+ghost use Rattle.families.specs.Writing.{code_of};
 
-// The code 0 with the end of what it wrote, or the code 22 or 23 with 0.
+// Why a step is refused. This crate finds the last two; `step` finds all four, and has no type of its own for them, so that `?` passes each up as it is.
 #[derive(Clone, Copy)]
-pub struct Rewritten {
-    pub code: usize,
-    pub end: usize,
+pub enum Refusal {
+    // The number is no rule's.
+    NoRule,
+    // No part begins at the place.
+    NoPart,
+    // The part is no instance of the rule.
+    NoInstance,
+    // The result passes a limit.
+    TooBig,
 }
 
-// A part that is no instance of the rule.
-pub const NO_INSTANCE: Rewritten = Rewritten { code: 22, end: 0 };
+impl Refusal {
+    // The number by which an answer tells it.
+    pub fn code(self) -> usize
+        ensures { result ≡ code_of self }
+    {
+        match self {
+            Refusal::NoRule => 20,
+            Refusal::NoPart => 21,
+            Refusal::NoInstance => 22,
+            Refusal::TooBig => 23,
+        }
+    }
+}
 
-// A result that passes a limit.
-pub const TOO_BIG: Rewritten = Rewritten { code: 23, end: 0 };
-
-// What is written for the part with which words begin, how many words that part has, and whether the rule may leave it deeper; then also how deep it is, and else 0.
+// What was written for the part with which words begin: where that ends, how many words the part has and, where the rule may leave it deeper, how deep it is.
 #[derive(Clone, Copy)]
 pub struct Replaced {
-    pub written: Rewritten,
+    pub end: usize,
     pub size: usize,
-    pub deepens: bool,
-    pub depth: usize,
+    pub depth: Option<usize>,
 }

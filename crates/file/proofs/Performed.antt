@@ -1,6 +1,5 @@
 -- The reading and the run, one after the other, are the replay.
-use mathlib.Core.Path.{◌≡◌, refl, ◌∙◌, ap}
-use mathlib.Core.Logic.{◌≢◌}
+use mathlib.Core.Path.{◌≡◌, refl, sym, ◌∙◌, ap}
 use mathlib.Core.Bool.{Bool, true, false, ◌&&◌, and-eq-true_iff}
 use mathlib.Core.List.{List}
 use Prim.Native.Nat.{ℕ}
@@ -8,12 +7,13 @@ use native.Mathlib.Omega.{arith}
 use borrow.Author.Tests.{eq-eqb, eqb-true}
 use lib.Dec.{eqb}
 use lib.ListN.{length, replicate}
+use Rattle.std.specs.Prelude.{Result, Ok, Err, is_ok}
 use Rattle.term.specs.Terms.{max_words}
 use Rattle.declarations.specs.Declarations.{size}
 use Rattle.format.specs.Files.{File}
 use Rattle.format.specs.Reading.{Reading, fault, read, read_of}
 use Rattle.format.specs.Kept.{steps_size, declarations_of, padded, steps_of}
-use Rattle.format.proofs.Codes.{fault-code}
+use Rattle.reader.specs.declared.faults.Fault.{Fault}
 use Rattle.reader.specs.declared.files.Read.{Read}
 use Rattle.reader.specs.Answers as R
 use Rattle.lent.specs.Lent.{lent}
@@ -31,18 +31,19 @@ sized_same ds left right steps d s = rw (eq-eqb _ _ d, eq-eqb _ _ s) (both (eqb 
     both true false = refl
     both false b = refl
 
-as_refused : {r : Read} {c n : ℕ} → r ≡ R.read_refusal c n → file_refusal r.code r.at ≡ file_refusal c n
-as_refused e = ap (λ x. file_refusal x.code x.at) e
+as_refused : {e : Fault} {c n : ℕ} → Err e ≡ R.read_refusal c n → file_refusal e.code e.at ≡ file_refusal c n
+as_refused {e} {c} {n} q = let z : e ≡ record { code = c; at = n } = cc in ap (λ x. file_refusal x.code x.at) z
 
-read-code : (f : File) → (R.answer_of (read f)).code ≡ 0
+read_ok : (f : File) → is_ok (R.answer_of (read f)) ≡ true
 unfolding R.answer_of
-read-code f = refl
+read_ok f = refl
 
 -- the run of what was read is the file's
-same-run : (f : File) {r : Read} {ds left right steps : List ℕ} → r ≡ R.answer_of (read f) → ds ≡ declarations_of f → left ≡ padded f.left → right ≡ padded f.right → steps ≡ steps_of f
+same-run : (f : File) {r : Read} {ds left right steps : List ℕ} → Ok r ≡ R.answer_of (read f) → ds ≡ declarations_of f → left ≡ padded f.left → right ≡ padded f.right → steps ≡ steps_of f
     → let d = lent ds left r.left right r.right steps r.steps in (run_answer d ≡ run_of_file f) × (left_after d ≡ left_of_file f) × (right_after d ≡ right_of_file f)
 unfolding R.answer_of
-same-run f a d l u m = (rw (a, d, l, u, m), rw (a, d, l, u, m), rw (a, d, l, u, m))
+same-run f {r} a d l u m =
+    let z : r ≡ record { left = length f.left; right = length f.right; steps = length f.steps } = cc in (rw (z, d, l, u, m), rw (z, d, l, u, m), rw (z, d, l, u, m))
 
 module _ (bytes left right : List ℕ) where
   -- an answer and two slices are the replay's
@@ -70,7 +71,7 @@ module _ (bytes left right : List ℕ) where
   unfolding sized
   both-sized e = let p = (and-eq-true_iff (eqb (length left) max_words) _).0 e in (eqb-true _ _ p.0, eqb-true _ _ p.1)
 
-  module _ (ds steps : List ℕ) (d : length ds ≡ size) (s : length steps ≡ steps_size) {r : Read} {ds' left' right' steps' : List ℕ}
+  module _ (ds steps : List ℕ) (d : length ds ≡ size) (s : length steps ≡ steps_size) {r : Result Read Fault} {ds' left' right' steps' : List ℕ}
       (h : R.Done bytes ds left right steps r ds' left' right' steps') where
     is-sized : {t : Bool} → sized left right ≡ t → R.sized ds left right steps ≡ t
     is-sized e = sized_same ds left right steps d s ∙ e
@@ -93,21 +94,21 @@ module _ (bytes left right : List ℕ) where
         let z = is-sized e in
         (h.answer ∙ rw (z, k), h.declarations ∙ rw (z, k), h.lefts ∙ rw (z, k), h.rights ∙ rw (z, k), h.moves ∙ rw (z, k))
 
-    pub refused : {a : A.Answer} → r.code ≢ 0 → a ≡ file_refusal r.code r.at → Replayed a left' right'
-    refused {a} c e = go (sized left right) (read_of bytes) refl refl
+    pub refused : {a : A.Answer} {x : Fault} → r ≡ Err x → a ≡ file_refusal x.code x.at → Replayed a left' right'
+    refused {a} q e = go (sized left right) (read_of bytes) refl refl
       where
         go : (t : Bool) (x : Reading) → sized left right ≡ t → read_of bytes ≡ x → Replayed a left' right'
-        go false x t k = let u = un_sized t in like (e ∙ as_refused u.0) u.1 u.2 (not-sized t)
-        go true (fault m n) t k = let u = un_read t k in like (e ∙ as_refused u.0) u.1 u.2 (not-read t k)
-        go true (read f) t k = absurd (c (ap (λ x. x.code) (is_read f t k).0 ∙ read-code f))
+        go false x t k = let u = un_sized t in like (e ∙ as_refused (sym q ∙ u.0)) u.1 u.2 (not-sized t)
+        go true (fault m n) t k = let u = un_read t k in like (e ∙ as_refused (sym q ∙ u.0)) u.1 u.2 (not-read t k)
+        go true (read f) t k = absurd (let z : false ≡ true = ap is_ok (sym q ∙ (is_read f t k).0) ∙ read_ok f in let y : ◌≡◌ {A = ℕ} 0 1 = cc in omega arith)
 
-    pub ran : {a : A.Answer} {l u : List ℕ} → r.code ≡ 0 → let d = lent ds' left' r.left right' r.right steps' r.steps in
+    pub ran : {a : A.Answer} {l u : List ℕ} {x : Read} → r ≡ Ok x → let d = lent ds' left' x.left right' x.right steps' x.steps in
         a ≡ run_answer d → l ≡ left_after d → u ≡ right_after d → Replayed a l u
     ran {a} {l} {u} c e p q = go (sized left right) (read_of bytes) refl refl
       where
         go : (t : Bool) (x : Reading) → sized left right ≡ t → read_of bytes ≡ x → Replayed a l u
-        go false x t k = absurd (let z : r.code ≡ 1 = ap (λ x. x.code) (un_sized t).0 in omega arith)
-        go true (fault m n) t k = absurd (let z : r.code ≡ m = ap (λ x. x.code) (un_read t k).0 in let b = fault-code bytes k in omega arith)
+        go false x t k = absurd (let z = sym c ∙ (un_sized t).0 in let y : ◌≡◌ {A = ℕ} 0 1 = cc in omega arith)
+        go true (fault m n) t k = absurd (let z = sym c ∙ (un_read t k).0 in let y : ◌≡◌ {A = ℕ} 0 1 = cc in omega arith)
         go true (read f) t k =
             let u = is_read f t k in
-            let v = same-run f u.0 u.1 u.2 u.3 u.4 in like (e ∙ v.0) (p ∙ v.1) (q ∙ v.2) (was_read f t k)
+            let v = same-run f (sym c ∙ u.0) u.1 u.2 u.3 u.4 in like (e ∙ v.0) (p ∙ v.1) (q ∙ v.2) (was_read f t k)

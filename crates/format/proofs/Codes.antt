@@ -10,13 +10,15 @@ use lib.ListN.{length}
 use Rattle.term.specs.Terms.{max_names, term_words}
 use Rattle.declarations.specs.Declarations.{is_index, is_variable}
 use Rattle.rules.specs.Steps.{Move}
+use Rattle.std.specs.Prelude as Code
+use Rattle.std.specs.Prelude.{Some, None}
 use Rattle.text.specs.Bytes.{bad_line}
 use Rattle.text.specs.Pieces.{Text, space, parted, lines_of}
 use Rattle.text.specs.Numbers.{number_in, at_most}
 use Rattle.text.specs.Tokens.{tokens_in}
 use Rattle.format.specs.Files.{Variable, File, Key, Types, Basis, Var, LeftTerm, RightTerm, Step, End, Other, names_of, max_bytes}
 use Rattle.format.specs.Reading.{Line, wrong, good, Reading, fault, read, fits, full, key_of, take_types, take_basis, take_variable, take_term}
-use Rattle.format.specs.Reading.{take_step, take_end, take_value, and_left, and_right, variable_in, move_in, key_line, line_taken, on_line, stage_after, read_from, nothing, read_of}
+use Rattle.format.specs.Reading.{take_step, take_end, take_value, and_left, and_right, variable_in, move_in, key_line, line_taken, on_line, stage_after, behind_bytes, read_from, nothing, read_of}
 
 pub data Marked : Line → Type 0 where
   marked : (c : ℕ) → (2 ≤ c) × (c ≤ 9) → Marked (wrong c)
@@ -96,10 +98,15 @@ unfolding read_from
 from n stage f [] = one_of (eqb stage 5) whole (coded 4 (omega arith))
 from n stage f (l ∷ ls) = on_line_lem n (line f stage l) (λ g. from (n + 1) (stage_after (key_of l)) g ls)
 
+bytes_lem : (o : Code.Option ℕ) {x : Reading} → Coded x → Coded (behind_bytes o x)
+unfolding behind_bytes
+bytes_lem None m = m
+bytes_lem (Some n) m = coded 3 (omega arith)
+
 all : (bytes : Text) → Coded (read_of bytes)
 unfolding read_of
 all bytes =
-    one_of (leb (length bytes) max_bytes) (one_of (eqb (bad_line 1 false bytes) 0) (from 1 0 nothing (lines_of bytes)) (coded 3 (omega arith))) (coded 2 (omega arith))
+    one_of (leb (length bytes) max_bytes) (bytes_lem (bad_line 1 false bytes) (from 1 0 nothing (lines_of bytes))) (coded 2 (omega arith))
 
 in_range : {c n : ℕ} → Coded (fault c n) → (2 ≤ c) × (c ≤ 9)
 in_range (coded c h) = h

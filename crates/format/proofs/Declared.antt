@@ -10,9 +10,9 @@ use lib.ListN.{length, get_or, replicate, length-replicate}
 use Rattle.term.specs.Parts.{parse, tree_in}
 use Rattle.term.specs.Terms.{max_names}
 use Rattle.types.specs.Sorts.{Context}
-use Rattle.declarations.specs.declared.constructor.Put.TheVariants.{Done, Full}
+use Rattle.declarations.specs.declared.constructor.PutError.TheVariants.{Full}
 use Rattle.declarations.specs.Declarations.{size, type_in, marked, context_in, names_in, is_index, is_variable, counted, good_declarations}
-use Rattle.declarations.specs.Put.{started, room, basis_put, variable_put}
+use Rattle.declarations.specs.Put.{done, refused, started, room, basis_put, variable_put}
 use Rattle.declarations.proofs.Entries.{declarations}
 use Rattle.declarations.proofs.Kept.{started-good, started-types, started_none, basis_put-kept, basis_put-good, variable_put-kept, variable_put-good}
 use Rattle.declarations.specs.Statements.{with_basis, with_variable}
@@ -53,11 +53,11 @@ record Stands (ds : List ℕ) (N b v : ℕ) (Γ : Context) : Type 0 where
   variables : get_or ds 2 0 ≡ v
   context : context_in ds ≡ Γ
 
-room-is : (ds : List ℕ) (k : ℕ) → good_declarations ds ≡ true → room ds k ≡ cond (eqb (get_or ds k 0) max_names) Full Done
+room-is : (ds : List ℕ) (k : ℕ) → good_declarations ds ≡ true → room ds k ≡ cond (eqb (get_or ds k 0) max_names) (refused Full) done
 unfolding room counted
 room-is ds k e = let g = declarations ds e in rw (eq-eqb _ _ g.long, le-leb _ _ g.types, le-leb _ _ g.bases, le-leb _ _ g.variables)
 
-has_room_lem : (ds : List ℕ) (k n : ℕ) → good_declarations ds ≡ true → get_or ds k 0 ≡ n → n < max_names → room ds k ≡ Done
+has_room_lem : (ds : List ℕ) (k n : ℕ) → good_declarations ds ≡ true → get_or ds k 0 ≡ n → n < max_names → room ds k ≡ done
 has_room_lem ds k n e h l = room-is ds k e ∙ rw (h, ne_eqb n max_names (λ z. omega arith))
 
 begun : (ds : List ℕ) (N : ℕ) → length ds ≡ size → N ≤ max_names → Stands (started ds N) N 0 0 (record { types = N; bases = []; variables = []; marks = []; bound = [] })
@@ -153,8 +153,8 @@ module _ (f : File) (s : WellDeclared f) where
   unfolding names_in
   names-declared = let d = declared in rw (eq-eqb _ _ declared-size, d.types, d.bases, d.variables)
 
-  pub room-bases : length f.bases < max_names → room (declarations_of f) 1 ≡ Done
+  pub room-bases : length f.bases < max_names → room (declarations_of f) 1 ≡ done
   room-bases = has_room_lem (declarations_of f) 1 _ declared.good declared.bases
 
-  pub room-variables : length f.variables < max_names → room (declarations_of f) 2 ≡ Done
+  pub room-variables : length f.variables < max_names → room (declarations_of f) 2 ≡ done
   room-variables = has_room_lem (declarations_of f) 2 _ declared.good declared.variables

@@ -10,6 +10,7 @@ use Rattle.words.specs.Listed.{lacks, all}
 use Rattle.term.specs.declared.parts.Side.{Side}
 use Rattle.term.specs.declared.parts.Side.TheVariants.{Left, Right}
 use Rattle.rules.specs.Steps.{Move}
+use Rattle.std.specs.Prelude.{None}
 use Rattle.text.specs.Bytes.{line_feed, printable, bad_line}
 use Rattle.text.specs.Pieces.{Text, space, colon, ended}
 use Rattle.text.specs.Numbers.{is_digit, all_digits, decimal}
@@ -125,11 +126,11 @@ unfolding all_lack
 run-lacks stop = refl
 run-lacks (more {l} x r) = rw (plain-lacks l (taken-plain x)) (run-lacks r)
 
-run-fine : {s t : ℕ} {f g : File} {ls : List Text} → Run s f ls t g → (n : ℕ) → bad_line n true (ended ls) ≡ 0
+run-fine : {s t : ℕ} {f g : File} {ls : List Text} → Run s f ls t g → (n : ℕ) → bad_line n true (ended ls) ≡ None
 unfolding ended bad_line
 run-fine stop n = refl
 run-fine (more {l} {ls} x r) n = bad-behind n true l (ended ls) (taken-plain x) ∙ run-fine r (n + 1)
 
-pub run-fault : {f g : File} {ls : List Text} → Run 0 f ls 5 g → bad_line 1 false (ended ls) ≡ 0
+pub run-fault : {f g : File} {ls : List Text} → Run 0 f ls 5 g → bad_line 1 false (ended ls) ≡ None
 unfolding ended
 run-fault (more {l} {ls} x r) = bad-behind 1 false l (ended ls) (taken-plain x) ∙ run-fine r 2

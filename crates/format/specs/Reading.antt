@@ -1,6 +1,8 @@
 -- How a file is read, as a function for the code to equal: a walk over its lines, up to the first fault. Of a file that is read the relation to believe is `Written` of `Files`, and
 -- `Reads` of `Statements` says that the two agree; of a fault it is this order. Document 01: "Codes 2, 3 come first, then the file by lines (in a line 4, 6, 5, then 7, 8 or 9)".
 use Rattle.std.specs.Prelude.{Bool, false, cond, ◌||◌, List, [], ◌∷◌, ◌++◌, ℕ, ◌+◌, eqb, leb, length, take, drop, get_or}
+use Rattle.std.specs.Prelude as Code
+use Rattle.std.specs.Prelude.{Some, None}
 use Rattle.std.proofs.Math.Option.{Option, some, none}
 use Rattle.term.specs.declared.parts.Side.{Side}
 use Rattle.term.specs.declared.parts.Side.TheVariants.{Left, Right}
@@ -190,9 +192,12 @@ read_from n stage f (l ∷ ls) = on_line (line_taken stage f l) (λ c. fault c n
 abbrev pub nothing : File
 nothing = record { types = 0; bases = []; variables = []; left = []; right = []; steps = [] }
 
+-- a line of bad bytes comes before all that is read
+unfoldable pub behind_bytes : Code.Option ℕ → Reading → Reading
+behind_bytes None r = r
+behind_bytes (Some n) r = fault 3 n
+
 -- 01: "2 over 65,536 bytes; at 0", "3 a byte other than LF and 32 to 126, or no LF as last byte"; "Codes 2, 3 come first, then the file by lines"
 unfoldable pub read_of : Text → Reading
-unfolding read_from bad_line pieces
-read_of bytes =
-    let bad = bad_line 1 false bytes in
-    cond (leb (length bytes) max_bytes) (cond (eqb bad 0) (read_from 1 0 nothing (lines_of bytes)) (fault 3 bad)) (fault 2 0)
+unfolding behind_bytes read_from bad_line pieces
+read_of bytes = cond (leb (length bytes) max_bytes) (behind_bytes (bad_line 1 false bytes) (read_from 1 0 nothing (lines_of bytes))) (fault 2 0)

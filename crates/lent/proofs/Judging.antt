@@ -5,10 +5,9 @@ use mathlib.Core.Bool.{Bool, true, false, cond}
 use mathlib.Core.List.{List}
 use Prim.Native.Nat.{ℕ, ◌≤◌}
 use native.Mathlib.Omega.{arith}
-use borrow.Author.Tests.{eq-eqb, ne_eqb, eqb-true, eqb-false}
+use borrow.Author.Tests.{ne_eqb, eqb-true, eqb-false}
 use lib.Dec.{eqb}
 use lib.ListN.{length}
-use Rattle.words.proofs.Runs.{same-words}
 use Rattle.term.specs.Terms.{max_words}
 use Rattle.term.specs.Trees.{Tree, depth}
 use Rattle.types.specs.Sorts.{Sort, index, basis, scalar, ket, bra, operator, IsType}
@@ -19,18 +18,17 @@ use Rattle.types.specs.TypeOf as T
 use Rattle.types.proofs.Proper.{proper}
 use Rattle.declarations.specs.Declarations.{context_in, good_declarations}
 use Rattle.declarations.proofs.Entries.{well_formed}
-use Rattle.typing.specs.declared.terms.TermType.{TermType}
 use Rattle.typing.specs.declared.terms.Typing.{Typing}
 use Rattle.typing.specs.Answers.{refuse, typing, answer_of, typing_of, sizes_of, HeldTerm, TypedTerm}
 use Rattle.typing.specs.Answers as Said
 use Rattle.typing.proofs.Theorems.{complete_entry, decided}
 use Rattle.lent.specs.declared.faults.Fault.{Fault}
 use Rattle.lent.specs.Lent.{Derivation, steps_fault}
-use Rattle.lent.specs.Faults.{same_sizes, same_type, fault, types_fault, early_code, fault_of, fault_in}
+use Rattle.lent.specs.Faults.{same_type, fault, types_fault, early_code, fault_of, fault_in}
 use Rattle.lent.specs.Refusals.{LeftTyped, RightTyped, Ordered, Refused, wrong_size, bad_declarations, no_term, bad_steps, left_stray, left_untyped, left_no_type, right_stray}
 use Rattle.lent.specs.Refusals.{right_untyped, right_no_type, types_differ, Judged, found, none}
 use Rattle.lent.specs.Statements.{Judges}
-use Rattle.lent.proofs.Tests.{fitting, in_order_lem, of_type_lem, answers_same, sorts-same}
+use Rattle.lent.proofs.Tests.{fitting, in_order_lem, type-same, of_type_lem, answers_same, sorts-same}
 
 -- ---- one side: what typing says, by its code and place
 data Late (ds ws : List ℕ) (n : ℕ) (t : Tree) : ℕ → ℕ → Type 0 where
@@ -77,11 +75,6 @@ late_size (typed h) = (λ e. omega arith, λ e. omega arith, λ e. omega arith)
 -- ---- both sides
 pub not-both : {b : Bool} → b ≡ false → b ≡ true → ⊥
 not-both e f = let z : ◌≡◌ {A = ℕ} 0 1 = cc in omega arith
-
-type-same : (a : TermType) → same_type a a ≡ true
-unfolding same_type same_sizes
-type-same a = let x = sizes_of a.kind in rw (eq-eqb x.number x.number refl, eq-eqb x.rows x.rows refl, eq-eqb x.columns x.columns refl, same-words a.rows)
-    (same-words a.columns)
 
 -- No code is 0; where both slices hold terms under good declarations, and the steps are in order, it is one of types
 pub refused-codes : {d : Derivation} {c s k : ℕ} → Refused d c s k

@@ -16,22 +16,23 @@ use Rattle.words.proofs.Listed.{up_to-more}
 use Rattle.term.specs.declared.parts.Side.{Side}
 use Rattle.term.specs.declared.parts.Side.TheVariants.{Left, Right}
 use Rattle.rules.specs.Steps.{Move, side_number}
-use Rattle.lent.specs.Lent.{step_words, max_steps, step_at, side_in, lent_step, move_in, moves_in, sided, steps_fault, step_words_of, has_room, step_put}
+use Rattle.lent.specs.declared.steps.StepsFault.TheVariants.{TooMany, Missing, NoSide}
+use Rattle.lent.specs.Lent.{step_words, max_steps, step_at, side_in, lent_step, move_in, moves_in, sided, in_order, out_of_order, steps_order, step_words_of, has_room, step_put}
 use Rattle.lent.specs.Statements.{Puts}
 
 -- ---- the tests in their order
 module _ (ws : List ℕ) (n : ℕ) where
-  pub too_many : max_steps < n → steps_fault ws n ≡ 6
-  unfolding steps_fault
+  pub too_many : max_steps < n → steps_order ws n ≡ out_of_order TooMany
+  unfolding steps_order
   too_many h = rw (lt-leb n max_steps h)
 
   module _ (few : n ≤ max_steps) where
-    pub too_short : length ws < step_at n → steps_fault ws n ≡ 9
-    unfolding steps_fault
+    pub too_short : length ws < step_at n → steps_order ws n ≡ out_of_order Missing
+    unfolding steps_order
     too_short h = rw (le-leb n max_steps few, lt-leb (step_at n) (length ws) h)
 
-    pub sides-told : step_at n ≤ length ws → {b : Bool} → all_up_to n (sided ws) ≡ b → steps_fault ws n ≡ cond b 0 5
-    unfolding steps_fault
+    pub sides-told : step_at n ≤ length ws → {b : Bool} → all_up_to n (sided ws) ≡ b → steps_order ws n ≡ cond b in_order (out_of_order NoSide)
+    unfolding steps_order
     sides-told h e = rw (le-leb n max_steps few, le-leb (step_at n) (length ws) h, e)
 
 -- ---- the constructor

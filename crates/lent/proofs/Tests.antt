@@ -1,17 +1,17 @@
 -- The tests before the first step, one after the other.
 use mathlib.Core.Path.{◌≡◌, refl, sym, ◌∙◌, ap}
 use mathlib.Core.Logic.{◌≢◌}
-use mathlib.Core.Bool.{Bool, true, false, ◌&&◌, and-eq-true_iff}
+use mathlib.Core.Bool.{Bool, true, false, cond, ◌&&◌, ◌||◌, and-eq-true_iff}
 use mathlib.Core.List.{List, ◌++◌}
 use Prim.Native.Nat.{ℕ, ◌≤◌}
 use native.Mathlib.Omega.{arith}
-use borrow.Author.Tests.{eq-eqb, ne_eqb, eqb-true, leb-true, le-leb}
+use borrow.Author.Tests.{eq-eqb, ne_eqb, eqb-true, eqb-false, leb-true, le-leb}
 use lib.Dec.{eqb, leb}
 use lib.ListN.{length, take, replicate}
 use lib.Seq.{take-take, take-append_seam}
 use Rattle.words.specs.Words.{same_words}
 use Rattle.words.specs.Listed.{all_up_to}
-use Rattle.words.proofs.Runs.{same_words_eq}
+use Rattle.words.proofs.Runs.{same-words, same_words_eq}
 use Rattle.term.specs.Parts.{parse, tree_in}
 use Rattle.term.specs.Trees.{Tree, words}
 use Rattle.term.proofs.Parsing.{parse-tree}
@@ -19,49 +19,83 @@ use Rattle.types.specs.Sorts.{Sort, index, basis, scalar, ket, bra, operator, Is
 use Rattle.types.specs.Rules.{◌⊢◌∶◌, WellFormed, Proper}
 use Rattle.types.specs.TypeOf as T
 use Rattle.types.proofs.Proper.{index_short, same_index}
-use Rattle.typing.specs.declared.terms.Sizes.{Sizes}
 use Rattle.typing.specs.declared.terms.TermType.{TermType}
 use Rattle.typing.specs.declared.terms.Typing.{Typing}
 use Rattle.typing.specs.Answers.{sizes_of, pad, type_record, refuse, typing, answer_of, typing_of, TypedTerm}
-use Rattle.lent.specs.Lent.{Derivation, max_steps, step_at, sided, steps_fault}
-use Rattle.lent.specs.Faults.{same_sizes, same_type, fault, types_fault, early_code, fault_of, fault_in}
+use Rattle.lent.specs.declared.faults.Fault.{Fault}
+use Rattle.lent.specs.declared.steps.StepsFault.{StepsFault}
+use Rattle.lent.specs.declared.steps.StepsFault.TheVariants.{TooMany, Missing, NoSide}
+use Rattle.lent.specs.Lent.{Derivation, max_steps, step_at, sided, in_order, out_of_order, fault_number, steps_order, steps_fault}
+use Rattle.lent.specs.Faults.{same_sizes, same_type, fault, no_fault, at_fault, told, types_fault, early_code, fault_of, fault_in}
 use Rattle.lent.specs.Refusals.{InOrder}
 
--- ---- the comparison of two types
-module _ (a b : TermType) (x y : Sizes) (e : x ≡ sizes_of a.kind) (f : y ≡ sizes_of b.kind) where
-  pub other_sizes : same_sizes x y ≡ false → false ≡ same_type a b
-  unfolding same_type
-  other_sizes h = rw (← e, ← f, h)
+-- ---- the first fault, from what each test tells
+early_then : (l r s : ℕ) → early_code l r s ≡ cond (eqb (early_code l r 0) 0) s (early_code l r 0)
+unfolding early_code
+early_then l r s = go (eqb l 1 || eqb r 1) (eqb l 7) (eqb l 8 || eqb r 8)
+  where
+    go : (a b c : Bool) → cond a 1 (cond b 7 (cond c 8 s)) ≡ cond (eqb (cond a 1 (cond b 7 (cond c 8 0))) 0) s (cond a 1 (cond b 7 (cond c 8 0)))
+    go true b c = refl
+    go false true c = refl
+    go false false true = refl
+    go false false false = refl
 
-  pub other_rows : same_sizes x y ≡ true → same_words a.rows b.rows ≡ false → false ≡ same_type a b
-  unfolding same_type
-  other_rows h k = rw (← e, ← f, h, k)
+-- a test without a fault has code 0, and one with a fault tells it
+pub told_none : (f : Fault) → told f ≡ no_fault → f.code ≡ 0
+told_none f h = go (eqb f.code 0) refl h
+  where
+    go : (b : Bool) → eqb f.code 0 ≡ b → cond b no_fault (at_fault f) ≡ no_fault → f.code ≡ 0
+    go true e k = eqb-true _ _ e
+    go false e k = cc
 
-  pub same-columns : same_sizes x y ≡ true → same_words a.rows b.rows ≡ true → same_words a.columns b.columns ≡ same_type a b
-  unfolding same_type
-  same-columns h k = rw (← e, ← f, h, k)
+pub told_some : (f g : Fault) → told f ≡ at_fault g → (g ≡ f) × (g.code ≢ 0)
+told_some f g h = go (eqb f.code 0) refl h
+  where
+    go : (b : Bool) → eqb f.code 0 ≡ b → cond b no_fault (at_fault f) ≡ at_fault g → (g ≡ f) × (g.code ≢ 0)
+    go true e k = cc
+    go false e k = let z : g ≡ f = cc in (z, rw z (eqb-false _ _ e))
 
--- ---- the first fault
-module _ (d : Derivation) (l r : Typing) (s early : ℕ)
-    (e : l ≡ typing_of d.ds d.left d.n) (f : r ≡ typing_of d.ds d.right d.m) (g : s ≡ steps_fault d.steps d.count) (h : early ≡ early_code l.code r.code s) where
-  pub early_fault : early ≢ 0 → fault early 0 0 ≡ fault_in d
-  unfolding fault_in fault_of
-  early_fault z = rw (← e, ← f, ← g, ← h, ne_eqb early 0 z)
+module _ (d : Derivation) (l r : Typing) (e : l ≡ typing_of d.ds d.left d.n) (f : r ≡ typing_of d.ds d.right d.m) where
+  abbrev early : ℕ
+  early = early_code l.code r.code 0
 
-  pub late_fault : early ≡ 0 → types_fault l r ≡ fault_in d
-  unfolding fault_in fault_of
-  late_fault z = rw (← e, ← f, ← g, ← h, eq-eqb early 0 z)
+  fault_by : fault_in d ≡ fault_of l r (steps_fault d.steps d.count)
+  unfolding fault_in
+  fault_by = rw (← e, ← f)
+
+  pub early_fault : {x : Fault} → told (fault early 0 0) ≡ at_fault x → at_fault x ≡ told (fault_in d)
+  unfolding fault_of
+  early_fault {x} h =
+      let p = told_some (fault early 0 0) x h in
+      let z : early ≢ 0 = λ z. p.1 (rw p.0 z) in
+      let k : fault_in d ≡ fault early 0 0 = rw (fault_by, early_then l.code r.code (steps_fault d.steps d.count), ne_eqb early 0 z, ne_eqb early 0 z) in
+      rw k (sym h)
+
+  module _ (h : told (fault early 0 0) ≡ no_fault) where
+    late : fault_in d ≡ cond (eqb (steps_fault d.steps d.count) 0) (types_fault l r) (fault (steps_fault d.steps d.count) 0 0)
+    unfolding fault_of
+    late = rw (fault_by, early_then l.code r.code (steps_fault d.steps d.count), told_none (fault early 0 0) h)
+
+    pub order_fault : {y : StepsFault} → steps_order d.steps d.count ≡ out_of_order y → at_fault (fault (fault_number y) 0 0) ≡ told (fault_in d)
+    unfolding steps_fault
+    order_fault {y = TooMany} k = rw (late, k)
+    order_fault {y = Missing} k = rw (late, k)
+    order_fault {y = NoSide} k = rw (late, k)
+
+    pub late_fault : steps_order d.steps d.count ≡ in_order → told (types_fault l r) ≡ told (fault_in d)
+    unfolding steps_fault
+    late_fault k = rw (late, k)
 
 -- ---- steps without a fault fit
 fitting_by : (a b c : Bool) (ws : List ℕ) (n : ℕ) → leb n max_steps ≡ a → leb (step_at n) (length ws) ≡ b → all_up_to n (sided ws) ≡ c → steps_fault ws n ≡ 0 → InOrder ws n
-unfolding steps_fault
+unfolding steps_fault steps_order
 fitting_by false b c ws n e f g h = absurd (omega (arith, rw e at h))
 fitting_by true false c ws n e f g h = absurd (omega (arith, rw (e, f) at h))
 fitting_by true true false ws n e f g h = absurd (omega (arith, rw (e, f, g) at h))
 fitting_by true true true ws n e f g h = record { few = leb-true n max_steps e; inside = leb-true (step_at n) (length ws) f; sides = g }
 
 pub in_order_lem : (ws : List ℕ) (n : ℕ) → InOrder ws n → steps_fault ws n ≡ 0
-unfolding steps_fault
+unfolding steps_fault steps_order
 in_order_lem ws n o = rw (le-leb n max_steps o.few, le-leb (step_at n) (length ws) o.inside, o.sides)
 
 pub fitting : (ws : List ℕ) (n : ℕ) → steps_fault ws n ≡ 0 → InOrder ws n
@@ -88,6 +122,12 @@ parts_same a b e =
     let lengths = (and-eq-true_iff (eqb x.rows y.rows) (eqb x.columns y.columns)).0 sizes.1 in
     let indices = (and-eq-true_iff (same_words a.rows b.rows) (same_words a.columns b.columns)).0 whole.1 in
     (eqb-true _ _ sizes.0, eqb-true _ _ lengths.0, eqb-true _ _ lengths.1, indices.0, indices.1)
+
+pub type-same : (a : TermType) → same_type a a ≡ true
+unfolding same_type same_sizes
+type-same a =
+    let x = sizes_of a.kind in
+    rw (eq-eqb x.number x.number refl, eq-eqb x.rows x.rows refl, eq-eqb x.columns x.columns refl, same-words a.rows) (same-words a.columns)
 
 pub of_type_lem : (n d : ℕ) (S : Sort) → (answer_of n d (T.typed S)).of ≡ (answer_of 0 0 (T.typed S)).of
 unfolding answer_of refuse typing

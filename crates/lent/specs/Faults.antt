@@ -1,6 +1,6 @@
 -- What is wrong with what is lent, before the first step, as a function for the code to equal: the relation to believe is `Judged` of `Refusals`, and `Judges` of `Statements` says that the
 -- fault is so. Document 01, "What comes out, by whose doing", codes 1 to 12, and 02, CR 1, code 13.
-use Rattle.std.specs.Prelude.{Bool, cond, ◌&&◌, ◌||◌, ℕ, eqb}
+use Rattle.std.specs.Prelude.{Bool, cond, ◌&&◌, ◌||◌, ℕ, eqb, Result, Ok, Err}
 use Rattle.words.specs.Words.{same_words}
 use Rattle.typing.specs.declared.terms.Sizes.{Sizes}
 use Rattle.typing.specs.declared.terms.TermType.{TermType}
@@ -19,6 +19,19 @@ same_type a b = same_sizes (sizes_of a.kind) (sizes_of b.kind) && (same_words a.
 
 abbrev pub fault : ℕ → ℕ → ℕ → F.Fault
 fault code side at = record { code = code; side = side; at = at }
+
+-- what a test tells: its fault, where it has one, as code 0 is none
+abbrev pub Told : Type 0
+Told = Result (Unit {0}) F.Fault
+
+abbrev pub no_fault : Told
+no_fault = Ok tt
+
+abbrev pub at_fault : F.Fault → Told
+at_fault f = Err f
+
+abbrev pub told : F.Fault → Told
+told f = cond (eqb f.code 0) no_fault (at_fault f)
 
 -- 12 "the two types differ", after "left 10, 11, right 10, 11", each side's 13 before its 10, the "side named"
 unfoldable pub types_fault : Typing → Typing → F.Fault

@@ -4,7 +4,7 @@
 --     word 2        the place
 --     words 3, 4    i and j
 --     from 5        not looked at: room for what a step may carry later
-use Rattle.std.specs.Prelude.{Bool, cond, ◌&&◌, ◌||◌, List, [], ◌∷◌, ℕ, ◌+◌, ◌*◌, eqb, leb, ltb, length, get_or}
+use Rattle.std.specs.Prelude.{Bool, cond, ◌&&◌, ◌||◌, List, [], ◌∷◌, ℕ, ◌+◌, ◌*◌, eqb, leb, ltb, length, get_or, Result, Ok, Err}
 use Rattle.words.specs.Words.{laid}
 use Rattle.words.specs.Listed.{up_to, all_up_to}
 use Rattle.term.specs.declared.parts.Side.{Side}
@@ -12,6 +12,8 @@ use Rattle.term.specs.declared.parts.Side.TheVariants.{Left, Right}
 use Rattle.rules.specs.Steps as R
 use Rattle.rules.specs.Steps.{Move, side_number}
 use Rattle.lent.specs.declared.steps.Step as S
+use Rattle.lent.specs.declared.steps.StepsFault.{StepsFault}
+use Rattle.lent.specs.declared.steps.StepsFault.TheVariants.{TooMany, Missing, NoSide}
 
 -- What is lent for a derivation: declarations, two work slices with the lengths of the terms in them, and the steps with their count
 pub record Derivation : Type 0 where
@@ -55,17 +57,40 @@ unfoldable pub moves_in : List ℕ → ℕ → List Move
 unfolding up_to move_in
 moves_in ws n = up_to n (move_in ws)
 
--- ---- when so many steps are in order. The codes are those of the file: 6 "one .. step line too many", 9 "end differs from the steps present", 5 "not of the
--- form above", which has "SIDE L or R"
+-- ---- when so many steps are in order, and why they are not
 abbrev pub is_side : ℕ → Bool
 is_side w = eqb w 1 || eqb w 2
 
 unfoldable pub sided : List ℕ → ℕ → Bool
 sided ws k = is_side (get_or ws (step_at k) 0)
 
-unfoldable pub steps_fault : List ℕ → ℕ → ℕ
+abbrev pub Order : Type 0
+Order = Result (Unit {0}) StepsFault
+
+abbrev pub in_order : Order
+in_order = Ok tt
+
+abbrev pub out_of_order : StepsFault → Order
+out_of_order f = Err f
+
+unfoldable pub steps_order : List ℕ → ℕ → Order
 unfolding all_up_to sided
-steps_fault ws n = cond (leb n max_steps) (cond (leb (step_at n) (length ws)) (cond (all_up_to n (sided ws)) 0 5) 9) 6
+steps_order ws n =
+    cond (leb n max_steps) (cond (leb (step_at n) (length ws)) (cond (all_up_to n (sided ws)) in_order (out_of_order NoSide)) (out_of_order Missing)) (out_of_order TooMany)
+
+-- The codes are those of the file: 6 "one .. step line too many", 9 "end differs from the steps present", 5 "not of the form above", which has "SIDE L or R"
+abbrev pub fault_number : StepsFault → ℕ
+fault_number TooMany = 6
+fault_number Missing = 9
+fault_number NoSide = 5
+
+abbrev pub order_number : Order → ℕ
+order_number (Ok u) = 0
+order_number (Err f) = fault_number f
+
+unfoldable pub steps_fault : List ℕ → ℕ → ℕ
+unfolding steps_order
+steps_fault ws n = order_number (steps_order ws n)
 
 -- ---- the constructor: a step put as the k-th, where there is room for it
 unfoldable pub step_words_of : Move → List ℕ

@@ -1,7 +1,7 @@
 -- The library's answers as numbers in a lent slice, for a caller in another language.
-use Rattle.std.specs.Prelude.{◌≡◌, Bool, cond, ◌&&◌, List, [], ◌∷◌, ℕ, eqb, length}
-use Rattle.declarations.specs.declared.constructor.Put.{Put}
-use Rattle.declarations.specs.declared.constructor.Put.TheVariants.{Done, WrongSize, Full, Bad}
+use Rattle.std.specs.Prelude.{◌≡◌, Bool, cond, ◌&&◌, List, [], ◌∷◌, ℕ, eqb, length, Ok, Err}
+use Rattle.declarations.specs.declared.constructor.PutError.TheVariants.{WrongSize, Full, Bad}
+use Rattle.declarations.specs.Put.{Outcome}
 use Rattle.typing.specs.declared.terms.Typing as T
 use Rattle.typing.specs.Answers.{sizes_of}
 use Rattle.rules.specs.Steps.{Move}
@@ -49,11 +49,11 @@ pub record Told (answer rows columns : List ℕ) (t : T.Typing) (r : ℕ) (answe
 
 -- What putting a name answers, by 01's numbers: 1 is the calling program's doing, "6 one basis, var or step line too many", "7 a declaration is not exactly the indices wanted,
 -- or breaks a limit or a name"
-abbrev pub put_number : Put → ℕ
-put_number Done = 0
-put_number WrongSize = 1
-put_number Full = 6
-put_number Bad = 7
+abbrev pub put_number : Outcome → ℕ
+put_number (Ok u) = 0
+put_number (Err WrongSize) = 1
+put_number (Err Full) = 6
+put_number (Err Bad) = 7
 
 -- a step by the numbers that are handed over
 abbrev pub step_of : ℕ → ℕ → ℕ → ℕ → L.Step

@@ -3,7 +3,7 @@
 // nothing.
 #![tactic(auto)]
 
-ghost use Rattle.std.specs.Prelude.{◌≡◌, cond, ◌&&◌, eqb, length, get_or};
+ghost use Rattle.std.specs.Prelude.{◌≡◌, cond, ◌&&◌, length, get_or};
 ghost use Rattle.term.specs.Parts.{part, part_depth};
 ghost use Rattle.declarations.specs.Declarations.{is_index, is_variable};
 ghost use Rattle.declarations.specs.Put as P;
@@ -16,7 +16,7 @@ ghost use Rattle.step.specs.Runs.{run_answer, left_after, right_after};
 ghost use Rattle.file.specs.Replays.{replay_answer, left_replayed, right_replayed};
 ghost use Rattle.library.specs.Numbers.{of_size, status, handed, answer_numbers, step_numbers, typing_numbers, Told, put_number, step_of, move_of};
 
-use declarations::constructor::{Put, put_basis, put_variable, start};
+use declarations::constructor::{PutError, put_basis, put_variable, start};
 use file::replay::replay;
 use lent::steps::{Step, put_step};
 use step::preview::preview_step;
@@ -31,10 +31,8 @@ fn copy_numbers(to: &mut [u64], from: &[usize])
     requires { length to.old ≡ length from.now }
     ensures { to.new ≡ from.now }
 {
-    let mut i = 0;
-    while i < to.len() {
-        to[i] = from[i] as u64;
-        i += 1;
+    for (i, place) in to.iter_mut().enumerate() {
+        *place = from[i] as u64;
     }
 }
 
@@ -120,26 +118,11 @@ pub extern "C" fn fejogbu_step(
     0
 }
 
-// Whether the slices for a typing's answer are of their sizes.
-fn are_sizes(answer: usize, rows: usize, columns: usize) -> bool
-    ensures { result ≡ (eqb answer 9 && (eqb rows 63 && eqb columns 63)) }
-{
-    if answer != 9 {
-        return false;
-    }
-    if rows != 63 {
-        return false;
-    }
-    columns == 63
-}
-
 fn put_numbers(answer: &mut [u64], t: Typing)
     requires { length answer.old ≡ 9 }
     ensures { answer.new ≡ typing_numbers t }
 {
-    let of = t.of;
-    let kind = of.kind;
-    let sizes = sizes_of(kind);
+    let sizes = sizes_of(t.of.kind);
     let numbers = [
         t.code,
         t.side,
@@ -154,27 +137,16 @@ fn put_numbers(answer: &mut [u64], t: Typing)
     copy_numbers(answer, &numbers);
 }
 
-// The words of both indices.
-fn put_words(rows: &mut [u16], columns: &mut [u16], t: Typing)
-    requires { (length rows.old ≡ 63) × (length columns.old ≡ 63) }
-    ensures { (rows.new ≡ t.of.rows) × (columns.new ≡ t.of.columns) }
-{
-    let of = t.of;
-    let row_words = of.rows;
-    let column_words = of.columns;
-    copy_words(rows, &row_words);
-    copy_words(columns, &column_words);
-}
-
 // Hands out nine numbers, and the words of the two indices of a type: what is told of a term, or of what a step leaves.
 fn hand_out(answer: &mut [u64], rows: &mut [u16], columns: &mut [u16], t: Typing) -> u64
     ensures { Told answer.old rows.old columns.old t result answer.new rows.new columns.new }
 {
-    if !are_sizes(answer.len(), rows.len(), columns.len()) {
+    if answer.len() != 9 || rows.len() != 63 || columns.len() != 63 {
         return 1;
     }
     put_numbers(answer, t);
-    put_words(rows, columns, t);
+    copy_words(rows, &t.of.rows);
+    copy_words(columns, &t.of.columns);
     0
 }
 
@@ -231,14 +203,15 @@ pub extern "C" fn fejogbu_part(words: &[u16], at: usize, depth: &mut usize) -> u
     found.len()
 }
 
-fn put_number(put: Put) -> u64
+// The numbers that the three constructors below hand out to C. A function here and no `code` of `PutError`: a file has 7 where C has 1, for `WrongSize`.
+fn put_number(put: Result<(), PutError>) -> u64
     ensures { result ≡ put_number put }
 {
     match put {
-        Put::Done => 0,
-        Put::WrongSize => 1,
-        Put::Full => 6,
-        Put::Bad => 7,
+        Ok(()) => 0,
+        Err(PutError::WrongSize) => 1,
+        Err(PutError::Full) => 6,
+        Err(PutError::Bad) => 7,
     }
 }
 
@@ -277,14 +250,9 @@ pub extern "C" fn fejogbu_put_variable(
     put_number(put_variable(ds, kind, first, second))
 }
 
-fn one_or_none(done: bool) -> u64
-    ensures { result ≡ cond done 1 0 }
-{
-    if done { 1 } else { 0 }
-}
-
 // Puts a step as the k-th of those that `steps` holds. Returns 1 where it was put; 0, and nothing is changed, where there is no room for it or the side is neither 1 nor 2.
 #[unsafe(no_mangle)]
+#[tactic(auto, unfolding(lent::specs::Lent::side_in))]
 pub extern "C" fn fejogbu_put_step(
     steps: &mut [u16],
     k: usize,
@@ -297,12 +265,10 @@ pub extern "C" fn fejogbu_put_step(
     ensures returned { result ≡ cond (is_side side && has_room steps.old k) 1 0 }
     ensures stepped { steps.new ≡ cond (is_side side) (step_put steps.old k (move_of side rule place i j)) steps.old }
 {
-    let s = Step { rule, place, i, j };
-    if side == 1 {
-        return one_or_none(put_step(steps, k, Side::Left, s));
-    }
-    if side == 2 {
-        return one_or_none(put_step(steps, k, Side::Right, s));
-    }
-    0
+    let side = match side {
+        1 => Side::Left,
+        2 => Side::Right,
+        _ => return 0,
+    };
+    u64::from(put_step(steps, k, side, Step { rule, place, i, j }))
 }

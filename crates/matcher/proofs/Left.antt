@@ -11,7 +11,7 @@ use borrow.Author.Tests.{lt-ltb, ltb-true, leb-true, ne_eqb, eqb-true, eqb-false
 use lib.Arith.{digits_div, digits_mod}
 use lib.Dec.{eqb}
 use lib.ListN.{length, take, drop, get_or, length-append, length-drop}
-use lib.Seq.{get_or-set_same, get_or-set_other, get_or-drop, drop-drop, drop_at, take_at}
+use lib.Seq.{get_or-drop, drop-drop, drop_at, take_at}
 use Rattle.words.specs.Words.{same_words}
 use Rattle.term.specs.Heads.{Label, word}
 use Rattle.term.specs.Trees.{Tree, Forest, node, none as no-tree, ◌▹◌, count, words, Formed}
@@ -25,15 +25,17 @@ use Rattle.rules.proofs.Matching.{AllFormed, matched}
 use Rattle.rulebook.specs.Code.Rows.{pattern_words}
 use Rattle.rulebook.proofs.Made.{head_word, made, head_plain, head_count}
 use Rattle.matcher.specs.declared.Match.{Match}
-use Rattle.matcher.specs.Matching.{held_in, Holds, stopped, passed, taken, hole_matched, word_matched, match_from}
-use Rattle.matcher.proofs.Walks.{end-inside, standing-passed, standing-taken}
+use Rattle.matcher.specs.declared.Miss.{Miss}
+use Rattle.std.specs.Prelude.{Result, Ok, Err}
+use Rattle.matcher.specs.Matching.{held_in, Holds, missed, passed, taken, hole_matched, word_matched, on_met, match_from}
+use Rattle.matcher.proofs.Walks.{taken_same, taken-other, end-inside, standing-passed, standing-taken}
 
 -- a walk over the words of a part, with the words `ps` of the left side behind and the words `rest` behind the part: it goes on behind the part, or it has stopped
-pub data Walked (ws rest ps : List ℕ) (x : Match) : Option (List Tree) → Type 0 where
+pub data Walked (ws rest ps : List ℕ) (x : Result Match Miss) : Option (List Tree) → Type 0 where
   went : {d : List Tree} (r : Match) → x ≡ match_from ps ws r → Holds ws r d → drop r.at ws ≡ rest → Walked ws rest ps x (some d)
-  halted : x.whole ≡ false → Walked ws rest ps x none
+  halted : (e : Miss) → x ≡ Err e → Walked ws rest ps x none
 
-walked_as : {ws rest ps : List ℕ} {x y : Match} {o : Option (List Tree)} → x ≡ y → Walked ws rest ps y o → Walked ws rest ps x o
+walked_as : {ws rest ps : List ℕ} {x y : Result Match Miss} {o : Option (List Tree)} → x ≡ y → Walked ws rest ps y o → Walked ws rest ps x o
 walked_as e w = rw e w
 
 -- ---- where a part begins
@@ -63,7 +65,7 @@ the_last (u ∷ c) t = the_last c t
 
 module _ {ws : List ℕ} {m : Match} {c : List Tree} (h : Holds ws m c) where
   holds-passed : (next : ℕ) → m.at ≤ next → next ≤ length ws → Holds ws (passed m next) c
-  holds-passed next g l = record { whole = refl; standing = standing-passed h.standing next g l; many = h.many; few = h.few; are = h.are }
+  holds-passed next g l = record { standing = standing-passed h.standing next g l; many = h.many; few = h.few; are = h.are }
 
   module _ (rest : List ℕ) (t : Tree) (whole : Formed t) (here : drop m.at ws ≡ words t ++ rest) where
     abbrev end : ℕ
@@ -80,17 +82,17 @@ module _ {ws : List ℕ} {m : Match} {c : List Tree} (h : Holds ws m c) where
 
     new-words : (k j : ℕ) → k < 5 → k ≡ length c → j < length (c ++ t ∷ []) → Dec (j ≡ k) → held_in ws (taken m k end) j ≡ words (holes (c ++ t ∷ []) j)
     new-words k j f e l (yes z) =
-        let s = h.standing.sizes in
-        rw (z, get_or-set_same m.starts k m.at 0 (omega (arith, s)), get_or-set_same m.ends k end 0 (omega (arith, s)), at_part_lem ws rest m.at t here, e, the_last c t)
+        let n = taken_same m k end j (omega (arith, h.standing.size)) z in
+        rw (n.0, n.1, at_part_lem ws rest m.at t here, z, e, the_last c t)
     new-words k j f e l (no z) =
         let b : j < length c = omega (arith, length-append c (t ∷ []), z) in
-        rw (get_or-set_other m.starts k j m.at 0 z, get_or-set_other m.ends k j end 0 z, ← before_last c t j b) (h.are j b)
+        let n = taken-other m k end j z in
+        rw (n.0, n.1, ← before_last c t j b) (h.are j b)
 
     holds-taken : (k : ℕ) → k < 5 → k ≡ length c → Holds ws (taken m k end) (c ++ t ∷ [])
     holds-taken k f e =
         let l = length-append c (t ∷ []) in
         record {
-          whole = refl;
           standing = standing-taken h.standing k end f (omega arith) end_in;
           many = omega (arith, e, l);
           few = omega (arith, e, l);
@@ -102,7 +104,7 @@ module _ {ws : List ℕ} {m : Match} {c : List Tree} (h : Holds ws m c) where
       abbrev p : ℕ
       p = 255 * 256 + k
 
-      hole-step : word_matched ws m p ≡ cond (eqb k m.held) (taken m k end) (cond (same_words (held_in ws m k) (words t)) (passed m end) (stopped m p))
+      hole-step : word_matched ws m p ≡ cond (eqb k m.held) (Ok (taken m k end)) (cond (same_words (held_in ws m k) (words t)) (Ok (passed m end)) (Err (missed m p)))
       unfolding word_matched hole_matched
       hole-step =
           let low : k < 256 = omega arith in
@@ -110,14 +112,14 @@ module _ {ws : List ℕ} {m : Match} {c : List Tree} (h : Holds ws m c) where
 
       hole_by : (a b : Bool) → eqb k m.held ≡ a → same_words (words (holes c k)) (words t) ≡ b → k ≤ length c
           → Walked ws rest ps (match_from (p ∷ ps) ws m) (cond a (some (c ++ t ∷ [])) (cond b (some c) none))
-      unfolding match_from
+      unfolding match_from on_met
       hole_by true b e f l = went (taken m k end) (rw (hole-step, e)) (holds-taken k few (eqb-true k m.held e ∙ h.many)) here_behind
       hole_by false true e f l =
           let n = eqb-false k m.held e in
           went (passed m end) (rw (hole-step, e, h.are k (omega (arith, l, h.many, n)), f)) (holds-passed end (omega arith) end_in) here_behind
       hole_by false false e f l =
           let n = eqb-false k m.held e in
-          halted (rw (hole-step, e, h.are k (omega (arith, l, h.many, n)), f))
+          halted (missed m p) (rw (hole-step, e, h.are k (omega (arith, l, h.many, n)), f))
 
       hole-walked : k ≤ length c → Walked ws rest ps (match_from (p ∷ ps) ws m) (hold k t c)
       unfolding hold
@@ -136,23 +138,23 @@ module _ {ws : List ℕ} {m : Match} {c : List Tree} (h : Holds ws m c) where
     behind-word : drop (m.at + 1) ws ≡ vs
     behind-word = sym (drop-drop 1 m.at ws) ∙ rw here
 
-    head_step : (w n : ℕ) → head_word w n ≡ true → word_matched ws m w ≡ cond (eqb w v) (passed m (m.at + 1)) (stopped m w)
+    head_step : (w n : ℕ) → head_word w n ≡ true → word_matched ws m w ≡ cond (eqb w v) (Ok (passed m (m.at + 1))) (Err (missed m w))
     unfolding word_matched
     head_step w n e =
         let l = head_plain w n e in
         rw (ne_eqb (w / 256) 255 (λ z. omega (arith, l, z)), lt-ltb m.at (length ws) inside, first-is)
 
-    head_stops : (w n : ℕ) (qs : List ℕ) → head_word w n ≡ true → eqb w v ≡ false → (match_from (w ∷ qs) ws m).whole ≡ false
-    unfolding match_from
+    head_stops : (w n : ℕ) (qs : List ℕ) → head_word w n ≡ true → eqb w v ≡ false → match_from (w ∷ qs) ws m ≡ Err (missed m w)
+    unfolding match_from on_met
     head_stops w n qs e f = rw (head_step w n e, f)
 
     -- it is the node's own, and then the children are next; or it is another's
     head_by : {rest ps : List ℕ} {o : Option (List Tree)} (w n : ℕ) (qs : List ℕ) (b : Bool) → head_word w n ≡ true → eqb w v ≡ b
         → (Holds ws (passed m (m.at + 1)) c → drop (m.at + 1) ws ≡ vs → Walked ws rest ps (match_from qs ws (passed m (m.at + 1))) o)
         → Walked ws rest ps (match_from (w ∷ qs) ws m) (cond b o none)
-    unfolding match_from
+    unfolding match_from on_met
     head_by w n qs true e f g = walked_as (rw (head_step w n e, f)) (g (holds-passed (m.at + 1) (omega arith) (omega (arith, inside))) behind-word)
-    head_by w n qs false e f g = halted (head_stops w n qs e f)
+    head_by w n qs false e f g = halted _ (head_stops w n qs e f)
 
     head_then : {rest ps : List ℕ} {o : Option (List Tree)} (l k : Label) (n : ℕ) (qs : List ℕ) → v ≡ word k n → head_word (word l n) n ≡ true
         → (Holds ws (passed m (m.at + 1)) c → drop (m.at + 1) ws ≡ vs → Walked ws rest ps (match_from qs ws (passed m (m.at + 1))) o)
@@ -180,15 +182,15 @@ module _ (ws : List ℕ) where
   mismatch : {m : Match} {c : List Tree} {rest ps : List ℕ} (qs : List ℕ) (l k : Label) (n : ℕ) (cs : Forest) → Holds ws m c → head_word (word l n) n ≡ true → Formed (node k cs)
       → n ≢ count cs → drop m.at ws ≡ words (node k cs) ++ rest → Walked ws rest ps (match_from (word l n ∷ qs) ws m) none
   unfolding words Formed
-  mismatch qs l k n cs h e f d here = halted (head_stops h here (word l n) n qs e (head_count l k n (count cs) e f.0 d))
+  mismatch qs l k n cs h e f d here = halted _ (head_stops h here (word l n) n qs e (head_count l k n (count cs) e f.0 d))
 
   -- the first of two children, and then the second
-  then_second : {ps qs : List ℕ} {x : Match} (rest : List ℕ) (u : Tree) {o : Option (List Tree)} {g : List Tree → Option (List Tree)} → Walked ws (words u ++ rest) qs x o
+  then_second : {ps qs : List ℕ} {x : Result Match Miss} (rest : List ℕ) (u : Tree) {o : Option (List Tree)} {g : List Tree → Option (List Tree)} → Walked ws (words u ++ rest) qs x o
       → ((d : List Tree) (r : Match) → o ≡ some d → Holds ws r d → drop r.at ws ≡ words u ++ rest → Walked ws rest ps (match_from qs ws r) (g d))
       → Walked ws rest ps x (and_then o g)
   unfolding and_then
   then_second rest u (went {d} r e h a) f = walked_as e (f d r refl h a)
-  then_second rest u (halted e) f = halted e
+  then_second rest u (halted q e) f = halted q e
 
   -- matching looks at no context
   no_context : Context

@@ -14,6 +14,8 @@ use Rattle.rules.proofs.Matching.{none-formed}
 use Rattle.rulebook.specs.Code.Rows.{pattern_words}
 use Rattle.rulebook.proofs.Made.{every_made}
 use Rattle.matcher.specs.declared.Match.{Match}
+use Rattle.matcher.specs.declared.Miss.{Miss}
+use Rattle.std.specs.Prelude.{Result}
 use Rattle.matcher.specs.Matching.{Holds, Found, holds, stops, began, match_from, match_of, only_holes, heads_first}
 use Rattle.matcher.specs.Statements.{Matches, HeadsFirst}
 use Rattle.matcher.proofs.Walks.{standing_begun}
@@ -21,14 +23,14 @@ use Rattle.matcher.proofs.Left.{Walked, went, halted, left-walked}
 
 -- nothing is held before the first word
 none-held : (ws : List ℕ) → Holds ws began []
-none-held ws = record { whole = refl; standing = standing_begun ws; many = refl; few = omega arith; are = λ k h. absurd (omega (arith, h)) }
+none-held ws = record { standing = standing_begun ws; many = refl; few = omega arith; are = λ k h. absurd (omega (arith, h)) }
 
-found_by : (t : Tree) (rest : List ℕ) {x : Match} {o : Option (List Tree)} → Walked (words t ++ rest) rest [] x o → Found (words t ++ rest) (length (words t)) x o
+found_by : (t : Tree) (rest : List ℕ) {x : Result Match Miss} {o : Option (List Tree)} → Walked (words t ++ rest) rest [] x o → Found (words t ++ rest) (length (words t)) x o
 unfolding match_from
 found_by t rest (went r e h a) =
     let n : r.at ≡ length (words t) = omega (arith, ap length a, length-drop r.at (words t ++ rest), length-append (words t) rest, h.standing.inside) in
     rw e (holds h n)
-found_by t rest (halted e) = stops e
+found_by t rest (halted q e) = rw e (stops q)
 
 pub matches : Matches
 unfolding match_of good

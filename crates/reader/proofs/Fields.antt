@@ -1,113 +1,115 @@
 -- What the code finds of a step line, field by field, and of the last line, and what the definition says.
-use mathlib.Core.Path.{◌≡◌, refl, sym, ◌∙◌, ap}
+use mathlib.Core.Path.{◌≡◌, refl, sym, ◌∙◌}
 use mathlib.Core.Logic.{◌≢◌}
 use mathlib.Core.Bool.{Bool, true, false, cond}
-use mathlib.Core.List.{List, [], ◌∷◌, ◌++◌}
+use mathlib.Core.List.{List, [], ◌∷◌}
 use mathlib.Core.Option.{Option, some, none}
-use Prim.Native.Nat.{ℕ, suc, ◌+◌, ◌-◌, ◌≤◌, ◌<◌}
+use Prim.Native.Nat.{ℕ, ◌+◌, ◌-◌, ◌≤◌, ◌<◌, min}
 use native.Mathlib.Nat.{zero-add}
-use native.Mathlib.Numerals.{add-one}
 use native.Mathlib.Omega.{arith}
-use borrow.Author.Tests.{eq-eqb, ne_eqb, ltb-true, ltb-false}
-use lib.Dec.{eqb, ltb}
-use lib.ListN.{length, take, drop, get_or, set}
-use lib.Seq.{length-take-le, get_or-take, take-suc-set, take_all}
-use Rattle.words.specs.Words.{laid}
-use Rattle.words.proofs.Runs.{added}
+use borrow.Author.Tests.{eq-eqb, ne_eqb, eqb-true, leb-true, leb-false}
+use lib.Dec.{eqb, leb}
+use lib.ListN.{length, take, drop, get_or}
+use lib.Seq.{length-take-le}
 use Rattle.term.specs.declared.parts.Side.{Side}
 use Rattle.term.specs.declared.parts.Side.TheVariants.{Left, Right}
 use Rattle.rules.specs.Steps.{Move}
-use Rattle.lent.specs.Lent.{max_steps, step_at, has_room, step_words_of, step_put}
-use Rattle.text.specs.declared.numbers.Number.TheVariants as N
+use Rattle.lent.specs.Lent.{max_steps, step_put}
+use Rattle.std.specs.Prelude.{Result, Ok, Err, Some, None}
+use Rattle.std.specs.Result.{OkIff, result_ok}
 use Rattle.text.specs.Pieces.{Text, space, parted, fields_from}
-use Rattle.text.specs.Numbers.{is_number, well_begun, number_in, limited_to, at_most, told}
-use Rattle.text.proofs.Told.{no_number, a_number, none-limited, over_limit, in_limit}
+use Rattle.text.specs.Numbers.{is_number, well_begun, number_in, limited_to, at_most, told, most}
+use Rattle.text.proofs.Told.{told-none, told_some, none-limited, over_limit, in_limit}
 use Rattle.text.proofs.Tokened.{fields_more, fields_end, fields_all, piece-within}
-use Rattle.cursor.specs.declared.Span.{Span}
-use Rattle.cursor.specs.Reading.{span_at}
-use Rattle.cursor.proofs.Spans.{span_end, span_next}
+use Rattle.cursor.specs.declared.Piece.{Piece}
+use Rattle.cursor.proofs.Spans.{Cut}
 use Rattle.format.specs.Files.{File, max_field, Step}
 use Rattle.format.specs.Reading.{full, side_in, move_of, move_in, and_step, take_step, take_end, take_value}
 use Rattle.format.specs.Kept.{steps_of}
 use Rattle.format.proofs.Stepped.{steps-more}
 use Rattle.reader.specs.declared.faults.Fault.{Fault}
-use Rattle.reader.specs.declared.stepping.Sided.TheVariants as S
 use Rattle.reader.specs.declared.stepping.Field.{Field}
-use Rattle.reader.specs.declared.stepping.Field.TheVariants as F
-use Rattle.reader.specs.Code.Lines.{fault, Answers, SideRead, named, unnamed, FieldRead, field, no_field, move_by, FieldsRead, StepTaken}
-use Rattle.reader.proofs.Named.{wrong-line}
+use Rattle.reader.specs.Code.Lines.{fault, Answers, refused, taken, SideRead, known, unknown, FieldRead, field, no_field, StepTaken}
+use Rattle.reader.proofs.Named.{wrong-line, good-line}
 
 -- ---- the side
-module _ (s : Text) {r : Span} (e : r ≡ span_at s 0 space) where
+module _ (s : Text) {r : Piece} (e : Cut s 0 space r) where
   abbrev end : ℕ
   end = r.end
 
   first-long : end ≤ length s
-  first-long = (piece-within s 0 (span_end s 0 space e) (omega arith)).1
+  first-long = (piece-within s 0 e.end (omega arith)).1
 
   first_field : fields_from 0 s ≡ take end s ∷ fields_from (end + 1) s
-  first_field = let z : end - 0 ≡ end = omega arith in rw z at (fields_more s 0 (span_end s 0 space e) (omega arith))
+  first_field = let z : end - 0 ≡ end = omega arith in rw z at (fields_more s 0 e.end (omega arith))
 
-  first-size : length (take end s) ≡ end
+  pub first-size : length (take end s) ≡ end
   first-size = length-take-le end s first-long
 
-  pub no_side : end ≢ 1 → SideRead s S.Malformed
+  -- a first field that is no single letter of a side
+  pub no_side : (length (take end s) ≡ 1 → (get_or (take end s) 0 0 ≢ 76) × (get_or (take end s) 0 0 ≢ 82)) → SideRead s None
   unfolding side_in
-  no_side n = unnamed (rw (first_field, first-size, ne_eqb end 1 n))
+  no_side h = unknown (rw first_field (go (eqb (length (take end s)) 1) refl))
+    where
+      go : (t : Bool) → eqb (length (take end s)) 1 ≡ t → side_in (take end s) ≡ none
+      go true t = let b = h (eqb-true _ _ t) in rw (t, ne_eqb _ 76 b.0, ne_eqb _ 82 b.1)
+      go false t = rw t
 
-  module _ (o : end ≡ 1) where
-    pub letter-there : 0 < length s
-    letter-there = let h = first-long in omega arith
-
-    first-letter : get_or (take end s) 0 0 ≡ get_or s 0 0
-    first-letter = get_or-take end s 0 0 (omega arith)
-
+  module _ (o : length (take end s) ≡ 1) where
     behind-side : fields_from 0 s ≡ take end s ∷ fields_from 2 s
-    behind-side = let z : end + 1 ≡ 2 = omega arith in rw z at first_field
+    behind-side = let l = first-size in let z : end + 1 ≡ 2 = omega arith in rw z at first_field
 
-    pub left_side : get_or s 0 0 ≡ 76 → SideRead s (S.Named Left)
+    pub left_side : get_or (take end s) 0 0 ≡ 76 → SideRead s (Some Left)
     unfolding side_in
-    left_side h = named {d = Left} (take end s) behind-side (rw (first-size, eq-eqb end 1 o, first-letter, h))
+    left_side h = known {d = Left} (take end s) behind-side (rw (o, h))
 
-    pub right_side : get_or s 0 0 ≡ 82 → SideRead s (S.Named Right)
+    pub right_side : get_or (take end s) 0 0 ≡ 82 → SideRead s (Some Right)
     unfolding side_in
-    right_side h = named {d = Right} (take end s) behind-side (rw (first-size, eq-eqb end 1 o, first-letter, h))
+    right_side h = known {d = Right} (take end s) behind-side (rw (o, h))
 
-    pub other_letter : get_or s 0 0 ≢ 76 → get_or s 0 0 ≢ 82 → SideRead s S.Malformed
-    unfolding side_in
-    other_letter l r = unnamed (rw (first_field, first-size, eq-eqb end 1 o, first-letter, ne_eqb (get_or s 0 0) 76 l, ne_eqb (get_or s 0 0) 82 r))
+-- ---- a number, and what `try_from` makes of it
+pub none-fits : {E : Type 0} {n : ℕ} (r : Result ℕ E) → OkIff r (n < 0x1_0000) n → None ≡ result_ok r → max_field < n
+none-fits (Ok x) h e = absurd (let z : ◌≡◌ {A = ℕ} 0 1 = cc in omega arith)
+none-fits {n = n} (Err x) h e = go (leb n max_field) refl
+  where
+    go : (t : Bool) → leb n max_field ≡ t → max_field < n
+    go true t = absurd (h (let l = leb-true n max_field t in omega arith))
+    go false t = leb-false n max_field t
 
--- ---- a number
+pub one-fits : {E : Type 0} {n x : ℕ} (r : Result ℕ E) → OkIff r (n < 0x1_0000) n → Some x ≡ result_ok r → (n ≤ max_field) × (x ≡ n)
+one-fits {x = x} (Ok y) h e = let z : x ≡ y = cc e in let l = h.0 in (omega arith, z ∙ h.1)
+one-fits (Err y) h e = absurd (let z : ◌≡◌ {A = ℕ} 0 1 = cc in omega arith)
+
 empty_number : number_in [] ≡ none
 unfolding number_in is_number well_begun
 empty_number = refl
 
 module _ (s : Text) (at : ℕ) where
-  pub field_missing : length s < at → FieldRead s at F.Malformed
+  pub field_missing : length s < at → FieldRead s at None
   unfolding limited_to
   field_missing h = no_field (rw (fields_end s at h, empty_number))
 
-  module _ {r : Span} (e : r ≡ span_at s at space) (h : at ≤ length s) where
+  module _ {r : Piece} (e : Cut s at space r) (h : at ≤ length s) where
     abbrev piece : Option ℕ
     piece = number_in (take (r.end - at) (drop at s))
 
     this_field : fields_from at s ≡ take (r.end - at) (drop at s) ∷ fields_from (r.end + 1) s
-    this_field = fields_more s at (span_end s at space e) h
+    this_field = fields_more s at e.end h
 
-    not-at-most : limited_to max_field piece ≡ none → FieldRead s at F.Malformed
+    not-at-most : limited_to max_field piece ≡ none → FieldRead s at None
     not-at-most n = no_field (rw this_field n)
 
-    pub field-bad : told piece ≡ N.Malformed → FieldRead s at F.Malformed
+    pub field-bad : told (min most) piece ≡ None → FieldRead s at None
     field-bad t = not-at-most (none-limited max_field piece t)
 
-    pub field_over : {v : ℕ} → told piece ≡ N.Value v → max_field < v → FieldRead s at F.Malformed
+    pub field_over : {v : ℕ} → told (min most) piece ≡ Some v → max_field < v → FieldRead s at None
     field_over t g = not-at-most (over_limit max_field piece t (omega arith) g)
 
-    pub field-number : {v : ℕ} → told piece ≡ N.Value v → v ≤ max_field → FieldRead s at (F.Number v r.next)
-    field-number t g =
-        let w = piece-within s at (span_end s at space e) h in
-        let n = span_next s at space e (omega arith) in
-        field {next = r.next} (take (r.end - at) (drop at s)) (rw n this_field) (in_limit max_field piece t (omega arith) g) (omega arith)
+    pub field-number : {v : ℕ} → told (min most) piece ≡ Some v → v ≤ max_field → FieldRead s at (Some (record { number = v; next = r.rest.at }))
+    field-number {v} t g =
+        let w = piece-within s at e.end h in
+        let n = e.next (omega arith) in
+        field {x = record { number = v; next = r.rest.at }} (take (r.end - at) (drop at s)) (rw n this_field) (in_limit max_field piece t (omega arith) g) (omega arith)
 
 -- ---- the five fields
 abbrev field_at : List Text → ℕ → Option ℕ
@@ -145,49 +147,38 @@ module _ (fs : List Text) where
 six : (q q₁ q₂ q₃ q₄ q₅ : Text) (fs : List Text) → move_in (q ∷ q₁ ∷ q₂ ∷ q₃ ∷ q₄ ∷ q₅ ∷ fs) ≡ none
 six q q₁ q₂ q₃ q₄ q₅ fs = let z = ne_eqb (length (q ∷ q₁ ∷ q₂ ∷ q₃ ∷ q₄ ∷ q₅ ∷ fs)) 5 (λ e. omega arith) in rw (move_by_lem, z)
 
--- a side and so many numbers read behind it, up to where the next field begins
-pub data Row (s : Text) (d : Side) : ℕ → List ℕ → ℕ → Type 0 where
-  sided : SideRead s (S.Named d) → Row s d 0 [] 2
-  more : {i at n next : ℕ} {ns : List ℕ} → Row s d i ns at → FieldRead s at (F.Number n next) → Row s d (suc i) (ns ++ n ∷ []) next
-
 module _ {s : Text} where
-  pub bad-side : SideRead s S.Malformed → move_in (parted space s) ≡ none
-  bad-side (unnamed e) = rw (← fields_all s) (no_first (fields_from 0 s) e)
+  pub no_side_move : SideRead s None → move_in (parted space s) ≡ none
+  no_side_move (unknown e) = rw (← fields_all s) (no_first (fields_from 0 s) e)
 
+  -- so many fields read behind the side, and then none
   module _ {d : Side} where
-    pub and : (out : List ℕ) {i at n next : ℕ} {a : Field} → Row s d i (take i out) at → i < length out → FieldRead s at a → a ≡ F.Number n next
-        → Row s d (i + 1) (take (i + 1) (set out i n)) next
-    and out {i} {n = n} r h x e = rw (add-one, take-suc-set out i n h) (more r (rw e at x))
+    pub no_rule : SideRead s (Some d) → FieldRead s 2 None → move_in (parted space s) ≡ none
+    no_rule (known q e _) (no_field n) = rw (← fields_all s, e) (no_move _ λ a b x y r p i j. never n r)
 
-    pub whole : (out : List ℕ) (i : ℕ) {at : ℕ} → Row s d i (take i out) at → length out ≡ 4 → i ≡ 4 → Row s d 4 out at
-    whole out i r l e = let t = take_all i out (omega arith) in let z = rw t at r in rw e at z
+    pub no_place : {r : Field} → SideRead s (Some d) → FieldRead s 2 (Some r) → FieldRead s r.next None → move_in (parted space s) ≡ none
+    no_place (known q e _) (field q₁ e₁ _ _) (no_field n) = rw (← fields_all s, e, e₁) (no_move _ λ a b x y r p i j. never n p)
 
-    no_row : {i at : ℕ} {ns : List ℕ} → Row s d i ns at → i < 4 → FieldRead s at F.Malformed → move_in (parted space s) ≡ none
-    no_row (sided (named q e _)) l (no_field n) = rw (← fields_all s, e) (no_move _ λ a b x y r p i j. never n r)
-    no_row (more (sided (named q e _)) (field q₁ e₁ _ _)) l (no_field n) = rw (← fields_all s, e, e₁) (no_move _ λ a b x y r p i j. never n p)
-    no_row (more (more (sided (named q e _)) (field q₁ e₁ _ _)) (field q₂ e₂ _ _)) l (no_field n) =
-        rw (← fields_all s, e, e₁, e₂) (no_move _ λ a b x y r p i j. never n i)
-    no_row (more (more (more (sided (named q e _)) (field q₁ e₁ _ _)) (field q₂ e₂ _ _)) (field q₃ e₃ _ _)) l (no_field n) =
-        rw (← fields_all s, e, e₁, e₂, e₃) (no_move _ λ a b x y r p i j. never n j)
-    no_row (more (more (more (more x _) _) _) _) l n = absurd (omega arith)
+    pub no_i : {r p : Field} → SideRead s (Some d) → FieldRead s 2 (Some r) → FieldRead s r.next (Some p) → FieldRead s p.next None → move_in (parted space s) ≡ none
+    no_i (known q e _) (field q₁ e₁ _ _) (field q₂ e₂ _ _) (no_field n) = rw (← fields_all s, e, e₁, e₂) (no_move _ λ a b x y r p i j. never n i)
 
-    pub bad-field : {i at : ℕ} {ns : List ℕ} {m : Move} → Row s d i ns at → i < 4 → FieldRead s at F.Malformed → FieldsRead s m false
-    bad-field r l n = record { move = λ t. absurd (let z : ◌≡◌ {A = ℕ} 0 1 = cc in omega arith); none = λ t. no_row r l n }
+    pub no_j : {r p i : Field} → SideRead s (Some d) → FieldRead s 2 (Some r) → FieldRead s r.next (Some p) → FieldRead s p.next (Some i) → FieldRead s i.next None → move_in (parted space s) ≡ none
+    no_j (known q e _) (field q₁ e₁ _ _) (field q₂ e₂ _ _) (field q₃ e₃ _ _) (no_field n) = rw (← fields_all s, e, e₁, e₂, e₃) (no_move _ λ a b x y r p i j. never n j)
 
-    pub all_fields : {ns : List ℕ} {end : ℕ} → Row s d 4 ns end → FieldsRead s (move_by d ns) (ltb (length s) end)
-    unfolding move_of
-    all_fields {end = end} (more (more (more (more (sided (named q e g)) (field q₁ e₁ g₁ _)) (field q₂ e₂ g₂ _)) (field q₃ e₃ g₃ _)) (field q₄ e₄ g₄ _)) =
-        record {
-          move = λ t. rw (← fields_all s, e, e₁, e₂, e₃, e₄, fields_end s end (ltb-true _ _ t), move_by_lem, g, g₁, g₂, g₃, g₄);
-          none = λ t. rw (← fields_all s, e, e₁, e₂, e₃, e₄, fields_more s end refl (ltb-false _ _ t)) (six q q₁ q₂ q₃ q₄ _ _);
-        }
+    -- all four, and whether the line ends there
+    module _ {r p i j : Field} where
+      pub too_many_fields : SideRead s (Some d) → FieldRead s 2 (Some r) → FieldRead s r.next (Some p) → FieldRead s p.next (Some i) → FieldRead s i.next (Some j) → j.next ≤ length s
+          → move_in (parted space s) ≡ none
+      too_many_fields (known q e _) (field q₁ e₁ _ _) (field q₂ e₂ _ _) (field q₃ e₃ _ _) (field q₄ e₄ _ _) h =
+          rw (← fields_all s, e, e₁, e₂, e₃, e₄, fields_more s j.next refl h) (six q q₁ q₂ q₃ q₄ _ _)
+
+      pub all_fields : SideRead s (Some d) → FieldRead s 2 (Some r) → FieldRead s r.next (Some p) → FieldRead s p.next (Some i) → FieldRead s i.next (Some j) → length s < j.next
+          → move_in (parted space s) ≡ some (record { side = d; step = record { rule = r.number; place = p.number; i = i.number; j = j.number } })
+      unfolding move_of
+      all_fields (known q e g) (field q₁ e₁ g₁ _) (field q₂ e₂ g₂ _) (field q₃ e₃ g₃ _) (field q₄ e₄ g₄ _) h =
+          rw (← fields_all s, e, e₁, e₂, e₃, e₄, fields_end s j.next h, move_by_lem, g, g₁, g₂, g₃, g₄)
 
 -- ---- a step line
-put-size : (t : Bool) (ws : List ℕ) (k : ℕ) (m : Move) → has_room ws k ≡ t → length (step_put ws k m) ≡ length ws
-unfolding step_put
-put-size true ws k m e = rw e (added ws (step_at k) (step_words_of m) (laid ws (step_at k) (step_words_of m)) _ refl refl).size
-put-size false ws k m e = rw e
-
 module _ (f : File) where
   is-full : length f.steps ≡ max_steps → full Step f ≡ true
   unfolding full
@@ -201,30 +192,29 @@ module _ (f : File) where
   unfolding steps_of
   one_more_lem m = sym (steps-more _ 0 f.steps m ∙ rw zero-add)
 
-module _ (s : Text) (line k : ℕ) (ws : List ℕ) {r : Fault} where
-  pub no_room : k ≡ max_steps → r ≡ fault 6 line → StepTaken s line k ws r ws
-  no_room h e = (refl, λ f l n w. wrong-line e (rw (is-full f (omega arith))))
+module _ (s : Text) (line k : ℕ) (ws : List ℕ) {A : Type 0} where
+  pub no_room : {e : Fault} → k ≡ max_steps → e ≡ fault 6 line → StepTaken {A = A} s line k ws (Err e) ws
+  no_room h e = λ f l n w. wrong-line e (rw (is-full f (omega arith)))
 
-  pub no_step : k ≢ max_steps → move_in (parted space s) ≡ none → r ≡ fault 5 line → StepTaken s line k ws r ws
+  pub no_step : {e : Fault} → k ≢ max_steps → move_in (parted space s) ≡ none → e ≡ fault 5 line → StepTaken {A = A} s line k ws (Err e) ws
   unfolding take_value take_step
-  no_step h m e = (refl, λ f l n w. wrong-line e (rw (not_full f (λ x. h (n ∙ x)), m)))
+  no_step h m e = λ f l n w. wrong-line e (rw (not_full f (λ x. h (n ∙ x)), m))
 
-  pub a_step : {m : Move} {out : List ℕ} → k ≢ max_steps → move_in (parted space s) ≡ some m → r ≡ fault 0 0 → out ≡ step_put ws k m → StepTaken s line k ws r out
-  unfolding take_value take_step Answers
-  a_step {m} h o e p =
-      (rw p (put-size _ ws k m refl), λ f l n w. rw (not_full f (λ x. h (n ∙ x)), o) record { answer = ap (λ x. x.code) e; words = λ g x. rw (p, w, n, one_more_lem f m) (ap steps_of cc) })
+  pub a_step : {m : Move} {out : List ℕ} {x : A} → k ≢ max_steps → move_in (parted space s) ≡ some m → out ≡ step_put ws k m → StepTaken s line k ws (Ok x) out
+  unfolding take_value take_step
+  a_step {m} h o p = λ f l n w. rw (not_full f (λ x. h (n ∙ x)), o) (good-line (and_step f m) refl (rw (p, w, n, one_more_lem f m)))
 
 -- ---- the last line
-module _ (f : File) (line : ℕ) (o : Option ℕ) where
-  pub no_end : {r : Fault} → told o ≡ N.Malformed → r ≡ fault 5 line → Answers line (take_end f o) r
-  unfolding take_end Answers
-  no_end e a = rw (no_number o e) a
+module _ (f : File) (line : ℕ) (o : Option ℕ) {A : Type 0} where
+  pub no_end : {e : Fault} → told (min most) o ≡ None → e ≡ fault 5 line → Answers {A = A} line (take_end f o) (Err e)
+  unfolding take_end
+  no_end t e = rw (told-none _ o t, e) refused
 
-  module _ {k v : ℕ} (few : k ≤ 1000) (n : k ≡ length f.steps) (e : told o ≡ N.Value v) where
-    pub other_end : {r : Fault} → v ≢ k → r ≡ fault 9 line → Answers line (take_end f o) r
-    unfolding take_end Answers
-    other_end h q = let a = a_number o v e in let b = a.2 in rw (a.1, ne_eqb a.0 (length f.steps) λ x. h (omega arith)) q
+  module _ {k v : ℕ} (few : k ≤ 1000) (n : k ≡ length f.steps) (t : told (min most) o ≡ Some v) where
+    pub other_end : {e : Fault} → v ≢ k → e ≡ fault 9 line → Answers {A = A} line (take_end f o) (Err e)
+    unfolding take_end
+    other_end h e = let a = told_some _ o t in let b = a.2 in rw (a.1, ne_eqb a.0 (length f.steps) λ x. h (omega arith), e) refused
 
-    pub same_end : {r : Fault} → v ≡ k → r ≡ fault 0 0 → Answers line (take_end f o) r
-    unfolding take_end Answers
-    same_end h q = let a = a_number o v e in let b = a.2 in rw (a.1, eq-eqb a.0 (length f.steps) (omega arith)) (ap (λ x. x.code) q)
+    pub same_end : {x : A} → v ≡ k → Answers line (take_end f o) (Ok x)
+    unfolding take_end
+    same_end h = let a = told_some _ o t in let b = a.2 in rw (a.1, eq-eqb a.0 (length f.steps) (omega arith)) taken

@@ -6,16 +6,17 @@ use mathlib.Core.List.{List, [], ◌∷◌, ◌++◌}
 use mathlib.Core.Option.{Option, some, none}
 use Prim.Native.Nat.{ℕ, ◌+◌, ◌≤◌}
 use native.Mathlib.Omega.{arith}
-use borrow.Author.Tests.{eqb-true, leb-true, leb-false}
-use lib.Dec.{eqb, leb}
-use lib.ListN.{length, length-append, get_or-eq_default}
+use borrow.Author.Tests.{eqb-true}
+use lib.Dec.{eqb}
+use lib.ListN.{length, length-append}
+use Rattle.std.specs.Prelude.{Result, Ok, Err, MatchResult, ⊤}
 use Rattle.term.specs.Terms.{max_names, term_words}
 use Rattle.rules.specs.Steps.{Move}
 use Rattle.lent.specs.Lent.{max_steps}
 use Rattle.text.specs.Pieces.{Text, space, parted}
 use Rattle.text.specs.Numbers.{number_in, at_most}
 use Rattle.text.specs.Tokens.{tokens_in}
-use Rattle.format.specs.Files.{Key, Types, Basis, Var, LeftTerm, RightTerm, Step, End, Other, File, WellDeclared, names_of, key_text}
+use Rattle.format.specs.Files.{Key, Types, Basis, Var, LeftTerm, RightTerm, Step, End, File, WellDeclared, names_of, key_text}
 use Rattle.format.specs.Reading.{Line, wrong, good, nothing, fits, full, stage_after, take_value, take_types, take_term, take_step, take_end, key_line}
 use Rattle.format.specs.Reading.{move_in, and_left, and_right, and_step}
 use Rattle.format.specs.Kept.{declarations_of, steps_of}
@@ -26,10 +27,11 @@ use Rattle.format.proofs.Values as Vals
 use Rattle.format.proofs.Values.{Value, taken_value}
 use Rattle.reader.specs.declared.faults.Fault.{Fault}
 use Rattle.reader.specs.declared.walking.State.{State}
-use Rattle.reader.specs.declared.walking.Taken.{Taken}
-use Rattle.reader.specs.Code.Keys.{keys, key_at}
-use Rattle.reader.specs.Code.Lines.{fault, Answers, ordered, Put, Placed}
-use Rattle.reader.specs.Code.Holding.{Holding, state_after, Valued, After}
+use Rattle.reader.specs.declared.keys.Stage.{Stage}
+use Rattle.reader.specs.Code.Keys.{number}
+use Rattle.reader.specs.Code.Lines.{fault, Answers, refused, taken, ordered, Put, Placed}
+use Rattle.reader.proofs.Named.{refused_by}
+use Rattle.reader.specs.Code.Holding.{Holding, Valued, After}
 
 -- ---- what a stage says of the file
 at-start : {s : ℕ} {f : File} {ls : List Text} → Reached s f ls → s ≡ 0 → f ≡ nothing
@@ -93,44 +95,29 @@ steps-kept (Vals.step m h) l = absurd (omega arith)
 steps-kept Vals.end l = absurd (omega arith)
 
 -- ---- a line out of order
-pub disordered : (k : Key) (s : ℕ) (f : File) (v : Text) {n : ℕ} {r : Taken} {ds ls rs ms : List ℕ} → fits k s ≡ false → r.fault ≡ fault 4 n
-    → After n k (key_line k s f v) r ds ls rs ms
-unfolding key_line Answers
-disordered k s f v e a =
-    let never : (g : File) → key_line k s f v ≡ good g → ⊥ = λ g h. let y = rw e at h in let z : ◌≡◌ {A = ℕ} 0 1 = cc in omega arith in
-    record { answer = rw e a; stage = λ g h. absurd (never g h); holding = λ g h. absurd (never g h) }
+pub disordered : (k : Key) (s : ℕ) (f : File) (v : Text) {n : ℕ} {e : Fault} {ds ls rs ms : List ℕ} → fits k s ≡ false → e ≡ fault 4 n
+    → After n k (key_line k s f v) (Err e) ds ls rs ms
+unfolding key_line
+disordered k s f v e a = record { answer = rw (e, a) refused; state = tt }
 
 -- ---- a line in order
-pub line_after : (k : ℕ) (s : State) (f : File) (v : Text) {n : ℕ} {r : Fault} {t : State} {ds ls rs ms es ks qs ns : List ℕ} → fits (key_at k) s.stage ≡ true → Holding s f ds ls rs ms
-    → t ≡ state_after k s r.at → Valued n k s f v r es ks qs ns → After n (key_at k) (key_line (key_at k) s.stage f v) (record { fault = r; state = t }) es ks qs ns
+state-behind : {n : ℕ} (k : Key) (s : State) (f : File) (v : Text) (r : Result State Fault) {ds ls rs ms es ks qs ns : List ℕ} → key_line k (number s.stage) f v ≡ ordered k f v → Holding s f ds ls rs ms
+    → Valued n k f v r es ks qs ns → MatchResult r (λ t. (number t.stage ≡ stage_after k) × ((g : File) → key_line k (number s.stage) f v ≡ good g → Holding t g es ks qs ns)) (λ _. ⊤)
+state-behind k s f v (Ok t) o h x =
+    let y = x.state in (
+      y.0,
+      λ g q. record {
+        lines = h.lines ++ (key_text k ++ v) ∷ [];
+        reached = rw y.0 (goes_on (key_taken k (number s.stage) f v g q) h.reached);
+        kept = y.1 g (sym o ∙ q);
+      },
+    )
+state-behind k s f v (Err e) o h x = tt
+
+pub line_after : {n : ℕ} (k : Key) (s : State) (f : File) (v : Text) {r : Result State Fault} {ds ls rs ms es ks qs ns : List ℕ} → fits k (number s.stage) ≡ true → Holding s f ds ls rs ms
+    → Valued n k f v r es ks qs ns → After n k (key_line k (number s.stage) f v) r es ks qs ns
 unfolding key_line
-line_after k s f v fit h e x =
-    let o : key_line (key_at k) s.stage f v ≡ ordered (key_at k) f v = rw fit in
-    record {
-      answer = rw fit x.answer;
-      stage = λ g q. ap (λ x. x.stage) e;
-      holding = λ g q.
-          rw e record {
-            lines = h.lines ++ (key_text (key_at k) ++ v) ∷ [];
-            reached = goes_on (key_taken (key_at k) s.stage f v g q) h.reached;
-            kept = x.kept g (sym o ∙ q);
-          };
-    }
-
--- what the match on a key's number tells
-pub arm : {k i n : ℕ} {s : State} {f : File} {v : Text} {r : Fault} {es ks qs ns : List ℕ} → k ≡ i → (fits (key_at i) s.stage ≡ true → Valued n i s f v r es ks qs ns)
-    → fits (key_at k) s.stage ≡ true → Valued n k s f v r es ks qs ns
-arm e p fit = rw e (p (rw e at fit))
-
-pub last_key : (k s : ℕ) → 6 ≤ k → fits (key_at k) s ≡ true → k ≡ 6
-unfolding fits
-last_key k s h e = go (leb k 6) refl
-  where
-    go : (t : Bool) → leb k 6 ≡ t → k ≡ 6
-    go true p = let q = leb-true k 6 p in omega arith
-    go false p =
-        let q = leb-false k 6 p in
-        let y = rw (get_or-eq_default keys Other {n = k} (omega arith)) at e in absurd (let z : ◌≡◌ {A = ℕ} 0 1 = cc in omega arith)
+line_after k s f v {r} fit h x = record { answer = rw fit x.answer; state = state-behind k s f v r (rw fit) h x }
 
 value_good : (t : Bool) {l : Line} {g : File} → cond t (wrong 6) l ≡ good g → l ≡ good g
 value_good true e = absurd (let z : ◌≡◌ {A = ℕ} 0 1 = cc in omega arith)
@@ -162,88 +149,137 @@ end-taken f g (some n) e = by (eqb n (length f.steps)) e
     by true e = cc
     by false e = absurd (let z : ◌≡◌ {A = ℕ} 0 1 = cc in omega arith)
 
+-- ---- a value that is refused: a `?` passes the fault on
+pub refused_valued : {A : Type 0} {n : ℕ} {k : Key} {f : File} {v : Text} {e : Fault} {r : Result State Fault} {ds ls rs ms : List ℕ} → Answers {A = A} n (ordered k f v) (Err e) → r ≡ Err e
+    → Valued n k f v r ds ls rs ms
+refused_valued a q = rw q record { answer = refused_by a; state = tt }
+
+taken_by : {A B : Type 0} {n : ℕ} {l : Line} {x : A} {y : B} → Answers n l (Ok x) → Answers n l (Ok y)
+taken_by taken = taken
+
 -- ---- the value of each key, by what its function promises
-module _ (s : State) (f : File) (v : Text) {n : ℕ} {ds ls rs ms : List ℕ} (h : Holding s f ds ls rs ms) {r : Fault} where
-  declared_valued : (k : ℕ) {es : List ℕ} → eqb k 5 ≡ false → stage_after (key_at k) ≤ 2 → Put declarations_of n (ordered (key_at k) f v) r es → Valued n k s f v r es ls rs ms
-  declared_valued k e l p = record {
-    answer = p.answer;
-    kept = λ g o.
-        let z = steps-kept (taken_value (key_at k) f v g (value_good (full (key_at k) f) o)) l in
-        let m = h.kept.steps in
-        record { declarations = λ x. p.words g o; left = λ x. absurd (omega arith); right = λ x. absurd (omega arith); steps = (m.0 ∙ z.0, rw e (m.1 ∙ z.1)) };
-  }
+module _ (s : State) (f : File) (v : Text) {n : ℕ} {ds ls rs ms : List ℕ} (h : Holding s f ds ls rs ms) where
+  -- what is promised of the file so far
+  module _ {A : Type 0} {r : Result A Fault} where
+    pub types_put : {es : List ℕ} → ((f : File) → f.bases ≡ [] → f.variables ≡ [] → Put declarations_of n (take_types f (at_most max_names v)) r es)
+        → fits Types (number s.stage) ≡ true → Put declarations_of n (ordered Types f v) r es
+    unfolding fits full take_value
+    types_put p z = let q = at-start h.reached (eqb-true _ _ z) in p f (ap (λ x. x.bases) q) (ap (λ x. x.variables) q)
 
-  pub types_valued : {es : List ℕ} → ((f : File) → f.bases ≡ [] → f.variables ≡ [] → Put declarations_of n (take_types f (at_most max_names v)) r es)
-      → fits Types s.stage ≡ true → Valued n 0 s f v r es ls rs ms
-  unfolding fits full take_value
-  types_valued p z =
-      let q = at-start h.reached (eqb-true _ _ z) in declared_valued 0 refl (omega arith) (p f (ap (λ x. x.bases) q) (ap (λ x. x.variables) q))
-
-  -- a basis or a variable
-  module _ {es : List ℕ} {k : ℕ} (p : (f : File) → WellDeclared f → (k ≡ 1 → f.variables ≡ []) → ds ≡ declarations_of f → Put declarations_of n (ordered (key_at k) f v) r es) where
-    pub basis_valued : k ≡ 1 → fits Basis s.stage ≡ true → Valued n 1 s f v r es ls rs ms
+    pub basis_put : {es : List ℕ} → ((f : File) → WellDeclared f → f.variables ≡ [] → ds ≡ declarations_of f → Put declarations_of n (ordered Basis f v) r es)
+        → fits Basis (number s.stage) ≡ true → Put declarations_of n (ordered Basis f v) r es
     unfolding fits
-    basis_valued i z =
-        let y : s.stage ≡ 1 = eqb-true _ _ z in
-        let b : s.stage ≢ 0 = λ x. omega arith in
-        declared_valued 1 refl (omega arith) (rw i at (p f (sound_at h.reached b) (λ i. no_variables_at h.reached y) (h.kept.declarations b)))
+    basis_put p z =
+        let y : number s.stage ≡ 1 = eqb-true _ _ z in
+        let b : number s.stage ≢ 0 = λ x. omega arith in p f (sound_at h.reached b) (no_variables_at h.reached y) (h.kept.declarations b)
 
-    pub variable_valued : k ≡ 2 → fits Var s.stage ≡ true → Valued n 2 s f v r es ls rs ms
+    pub variable_put : {es : List ℕ} → ((f : File) → WellDeclared f → ds ≡ declarations_of f → Put declarations_of n (ordered Var f v) r es)
+        → fits Var (number s.stage) ≡ true → Put declarations_of n (ordered Var f v) r es
     unfolding fits
-    variable_valued i z =
-        let b = begun s.stage z in
-        declared_valued 2 refl (omega arith) (rw i at (p f (sound_at h.reached b) (λ j. absurd (omega arith)) (h.kept.declarations b)))
+    variable_put p z = let b = begun (number s.stage) z in p f (sound_at h.reached b) (h.kept.declarations b)
 
-  module _ {out : List ℕ} (p : (f : File) → WellDeclared f → ds ≡ declarations_of f → Placed f n v r out) where
-    pub left_valued : fits LeftTerm s.stage ≡ true → Valued n 3 s f v r ds out rs ms
+    pub step_put : {out : List ℕ} → ((f : File) → length f.steps ≤ max_steps → s.steps ≡ length f.steps → ms ≡ steps_of f → Put steps_of n (ordered Step f v) r out)
+        → Put steps_of n (ordered Step f v) r out
+    step_put p = let k = h.kept.steps in p f (few-steps-at h.reached) k.1 k.0
+
+    pub end_answers : ((f : File) → s.steps ≡ length f.steps → Answers n (take_end f (number_in v)) r) → Answers n (ordered End f v) r
+    unfolding full take_value
+    end_answers p = p f h.kept.steps.1
+
+  module _ {r : Result ℕ Fault} {out : List ℕ} (p : (f : File) → WellDeclared f → ds ≡ declarations_of f → Placed f n v r out) where
+    pub left_placed : fits LeftTerm (number s.stage) ≡ true → Placed f n v r out
+    unfolding fits
+    left_placed z = let b = begun (number s.stage) z in p f (sound_at h.reached b) (h.kept.declarations b)
+
+    pub right_placed : fits RightTerm (number s.stage) ≡ true → Placed f n v r out
+    unfolding fits
+    right_placed z = let y : number s.stage ≡ 3 = eqb-true _ _ z in let b : number s.stage ≢ 0 = λ x. omega arith in p f (sound_at h.reached b) (h.kept.declarations b)
+
+  module _ {r : Result ℕ Fault} {out : List ℕ} (p : Placed f n v r out) where
+    pub left_answers : Answers n (ordered LeftTerm f v) r
+    unfolding full take_value
+    left_answers = p.answer (and_left f)
+
+    pub right_answers : Answers n (ordered RightTerm f v) r
+    unfolding full take_value
+    right_answers = p.answer (and_right f)
+
+  -- the state behind
+  module _ {g : Stage} where
+    pub declared_valued : (k : Key) {A : Type 0} {x : A} {es : List ℕ} → number g ≡ stage_after k → stage_after k ≤ 2 → Put declarations_of n (ordered k f v) (Ok x) es
+        → Valued n k f v (Ok (record { stage = g; left = s.left; right = s.right; steps = s.steps })) es ls rs ms
+    declared_valued k i l p = record {
+      answer = taken_by p.answer;
+      state = (
+        i,
+        λ g o.
+            let z = steps-kept (taken_value k f v g (value_good (full k f) o)) l in
+            let m = h.kept.steps in
+            record { declarations = λ x. p.words g o; left = λ x. absurd (omega arith); right = λ x. absurd (omega arith); steps = (m.0 ∙ z.0, m.1 ∙ z.1) },
+      );
+    }
+
+    pub left_valued : {x : ℕ} {out : List ℕ} → number g ≡ 3 → fits LeftTerm (number s.stage) ≡ true → Placed f n v (Ok x) out
+        → Valued n LeftTerm f v (Ok (record { stage = g; left = x; right = s.right; steps = s.steps })) ds out rs ms
     unfolding fits full take_value declarations_of steps_of
-    left_valued z =
-        let b = begun s.stage z in
-        let x = p f (sound_at h.reached b) (h.kept.declarations b) in
-        record {
-          answer = x.answer (and_left f);
-          kept = λ g o.
-              let q = term-taken f g (and_left f) (tokens_in v) o in
-              rw (← q.3) record { declarations = λ y. h.kept.declarations b; left = λ y. x.words q.0 q.1 q.2; right = λ y. absurd (omega arith); steps = h.kept.steps };
-        }
+    left_valued {x} i z p = record {
+      answer = taken_by (p.answer (and_left f));
+      state = (
+        i,
+        λ g o.
+            let b = begun (number s.stage) z in
+            let q = term-taken f g (and_left f) (tokens_in v) o in
+            let w = p.words q.0 q.1 q.2 in
+            let l : x ≡ length q.0 = cc w.1 in
+            rw (← q.3) record { declarations = λ y. h.kept.declarations b; left = λ y. (w.0, l); right = λ y. absurd (omega arith); steps = h.kept.steps },
+      );
+    }
 
-    pub right_valued : fits RightTerm s.stage ≡ true → Valued n 4 s f v r ds ls out ms
+    pub right_valued : {x : ℕ} {out : List ℕ} → number g ≡ 4 → fits RightTerm (number s.stage) ≡ true → Placed f n v (Ok x) out
+        → Valued n RightTerm f v (Ok (record { stage = g; left = s.left; right = x; steps = s.steps })) ds ls out ms
     unfolding fits full take_value declarations_of steps_of
-    right_valued z =
-        let e : s.stage ≡ 3 = eqb-true _ _ z in
-        let b : s.stage ≢ 0 = λ x. omega arith in
-        let x = p f (sound_at h.reached b) (h.kept.declarations b) in
-        record {
-          answer = x.answer (and_right f);
-          kept = λ g o.
-              let q = term-taken f g (and_right f) (tokens_in v) o in
-              rw (← q.3) record { declarations = λ y. h.kept.declarations b; left = λ y. h.kept.left (omega arith); right = λ y. x.words q.0 q.1 q.2; steps = h.kept.steps };
-        }
+    right_valued {x} i z p = record {
+      answer = taken_by (p.answer (and_right f));
+      state = (
+        i,
+        λ g o.
+            let e : number s.stage ≡ 3 = eqb-true _ _ z in
+            let b : number s.stage ≢ 0 = λ x. omega arith in
+            let q = term-taken f g (and_right f) (tokens_in v) o in
+            let w = p.words q.0 q.1 q.2 in
+            let l : x ≡ length q.0 = cc w.1 in
+            rw (← q.3) record { declarations = λ y. h.kept.declarations b; left = λ y. h.kept.left (omega arith); right = λ y. (w.0, l); steps = h.kept.steps },
+      );
+    }
 
-  pub step_valued : {out : List ℕ} → ((f : File) → length f.steps ≤ max_steps → s.steps ≡ length f.steps → ms ≡ steps_of f → Put steps_of n (ordered Step f v) r out)
-      → fits Step s.stage ≡ true → Valued n 5 s f v r ds ls rs out
-  unfolding fits take_value declarations_of
-  step_valued {out} p z =
-      let e : s.stage ≡ 4 = eqb-true _ _ z in
-      let k = h.kept in
-      let x = p f (few-steps-at h.reached) k.steps.1 k.steps.0 in
-      record {
-        answer = x.answer;
-        kept = λ g o.
+    pub step_valued : {A : Type 0} {x : A} {out : List ℕ} → number g ≡ 4 → fits Step (number s.stage) ≡ true → Put steps_of n (ordered Step f v) (Ok x) out
+        → Valued n Step f v (Ok (record { stage = g; left = s.left; right = s.right; steps = s.steps + 1 })) ds ls rs out
+    unfolding fits take_value declarations_of
+    step_valued {out = out} i z p = record {
+      answer = taken_by p.answer;
+      state = (
+        i,
+        λ g o.
+            let e : number s.stage ≡ 4 = eqb-true _ _ z in
+            let k = h.kept in
             let q = move_taken f g (move_in (parted space v)) (value_good (full Step f) o) in
             let l : s.steps + 1 ≡ length (f.steps ++ q.0 ∷ []) = omega (arith, k.steps.1, length-append f.steps (q.0 ∷ [])) in
-            let u : out ≡ steps_of (and_step f q.0) = x.words g o ∙ ap steps_of (sym q.1) in
-            rw (← q.1) record { declarations = λ y. k.declarations (λ i. omega arith); left = λ y. k.left (omega arith); right = λ y. k.right (omega arith); steps = (u, l) };
-      }
+            let u : out ≡ steps_of (and_step f q.0) = p.words g o ∙ ap steps_of (sym q.1) in
+            rw (← q.1) record { declarations = λ y. k.declarations (λ i. omega arith); left = λ y. k.left (omega arith); right = λ y. k.right (omega arith); steps = (u, l) },
+      );
+    }
 
-  pub end_valued : ((f : File) → s.steps ≡ length f.steps → Answers n (take_end f (number_in v)) r) → fits End s.stage ≡ true → Valued n 6 s f v r ds ls rs ms
-  unfolding fits full take_value
-  end_valued p z =
-      let e : s.stage ≡ 4 = eqb-true _ _ z in
-      let k = h.kept in
-      record {
-        answer = p f k.steps.1;
-        kept = λ g o.
+    pub end_valued : {A : Type 0} {x : A} → number g ≡ 5 → fits End (number s.stage) ≡ true → Answers n (ordered End f v) (Ok x)
+        → Valued n End f v (Ok (record { stage = g; left = s.left; right = s.right; steps = s.steps })) ds ls rs ms
+    unfolding fits full take_value
+    end_valued i z p = record {
+      answer = taken_by p;
+      state = (
+        i,
+        λ g o.
+            let e : number s.stage ≡ 4 = eqb-true _ _ z in
+            let k = h.kept in
             rw (← end-taken f g (number_in v) o)
-            record { declarations = λ y. k.declarations (λ i. omega arith); left = λ y. k.left (omega arith); right = λ y. k.right (omega arith); steps = k.steps };
-      }
+            record { declarations = λ y. k.declarations (λ i. omega arith); left = λ y. k.left (omega arith); right = λ y. k.right (omega arith); steps = k.steps },
+      );
+    }

@@ -4,41 +4,46 @@ use mathlib.Core.Logic.{◌≢◌}
 use mathlib.Core.Bool.{Bool, true, false, cond}
 use mathlib.Core.List.{List, [], ◌∷◌}
 use mathlib.Core.Option.{Option, some, none}
-use Prim.Native.Nat.{ℕ, zero, suc, ◌-◌, ◌≤◌, ◌<◌}
+use Prim.Native.Nat.{ℕ, ◌≤◌, ◌<◌}
 use native.Mathlib.Omega.{arith}
-use borrow.Author.Tests.{eq-eqb, ne_eqb, eqb-true, le-leb, lt-leb}
+use borrow.Author.Tests.{eq-eqb, ne_eqb, le-leb}
 use lib.Dec.{eqb}
 use lib.ListN.{length, get_or, replicate, length-replicate, take, drop, length-take, length-drop}
-use lib.Seq.{take-length}
+use Rattle.std.specs.Prelude.{Result, Ok, Err, IsErr, IsErrAnd, MatchResult}
+use Rattle.std.proofs.lemmas.Result.{err_from_is_err_and}
 use Rattle.words.specs.Words.{cleared}
-use Rattle.words.proofs.Runs.{to_end}
 use Rattle.term.specs.Parts.{part}
-use Rattle.term.proofs.Scan.{part_length}
 use Rattle.term.specs.Terms.{max_names}
-use Rattle.declarations.specs.declared.constructor.Put as P
-use Rattle.declarations.specs.declared.constructor.Put.TheVariants as Puts
+use Rattle.declarations.specs.declared.constructor.PutError.TheVariants.{Bad}
 use Rattle.declarations.specs.Declarations.{size, marked, is_index, is_variable}
-use Rattle.declarations.specs.Put.{started, start_answer, room, answer, leaves, basis_put, variable_put}
+use Rattle.declarations.specs.Put.{Outcome, done, started, start_answer, room, answer, leaves, basis_put, variable_put}
+use Rattle.declarations.specs.Put as P
 use Rattle.declarations.proofs.Entries.{index_tests}
 use Rattle.declarations.proofs.Put.{variable_few}
 use Rattle.text.specs.Pieces.{Text}
 use Rattle.text.specs.Tokens.{tokens_in}
-use Rattle.format.specs.Files.{File, WellDeclared}
-use Rattle.format.specs.Reading.{Line, wrong, good, full, take_types, take_basis, take_variable, take_value, variable_of, variable_in, words_behind, kind_of_letter}
+use Rattle.format.specs.Files.{File, WellDeclared, Basis, Var}
+use Rattle.format.specs.Reading.{Line, wrong, good, full, take_types, take_basis, take_variable, take_value, variable_of, variable_in, variable_with, words_behind, kind_of_letter, and_basis, and_variable}
 use Rattle.format.specs.Kept.{put_bases, put_variables, declarations_of}
 use Rattle.format.proofs.Declared.{declared, room-bases, room-variables, bases-more, variables-more}
 use Rattle.reader.specs.declared.faults.Fault.{Fault}
-use Rattle.reader.specs.Code.Keys.{key_at}
-use Rattle.reader.specs.Code.Lines.{fault, Answers, ordered, Put, put_code, kind_number, kind_in, words_in, is_named, name_put, and_name, PutWords}
+use Rattle.reader.specs.declared.declaring.Kind.{Kind}
+use Rattle.reader.specs.Code.Keys.{word_of}
+use Rattle.reader.specs.Code.Lines.{fault, Answers, refused, taken, ordered, Put, put_code, WordsRead, malformed, too_many, few}
 
 -- ---- a line that is wrong, and one that is not
-pub wrong-line : {made : File → List ℕ} {n c : ℕ} {l : Line} {r : Fault} {out : List ℕ} → r ≡ fault c n → l ≡ wrong c → Put made n l r out
-unfolding Answers
-wrong-line e f = record { answer = rw f e; words = λ g h. absurd (let z : ◌≡◌ {A = ℕ} 0 1 = cc in omega arith) }
+pub wrong-line : {A : Type 0} {made : File → List ℕ} {n c : ℕ} {l : Line} {e : Fault} {out : List ℕ} → e ≡ fault c n → l ≡ wrong c → Put {A = A} made n l (Err e) out
+wrong-line e f = record { answer = rw (f, e) refused; words = λ g h. absurd (let z : ◌≡◌ {A = ℕ} 0 1 = cc in omega arith) }
 
-pub good-line : {made : File → List ℕ} {n : ℕ} {l : Line} {r : Fault} (g : File) {out : List ℕ} → r.code ≡ 0 → l ≡ good g → out ≡ made g → Put made n l r out
-unfolding Answers
-good-line g e f w = record { answer = rw f e; words = λ h k. let z : g ≡ h = cc in w ∙ rw z }
+pub good-line : {A : Type 0} {made : File → List ℕ} {n : ℕ} {l : Line} {x : A} (g : File) {out : List ℕ} → l ≡ good g → out ≡ made g → Put made n l (Ok x) out
+good-line g f w = record { answer = rw f taken; words = λ h k. let z : g ≡ h = cc in w ∙ rw z }
+
+-- the fault that a `?` passes on is the one that it met
+pub refused_by : {A B : Type 0} {n : ℕ} {l : Line} {e : Fault} → Answers {A = A} n l (Err e) → Answers {A = B} n l (Err e)
+refused_by refused = refused
+
+pub passed_on : {A : Type 0} {e : Fault} {r : Result A Fault} → IsErr r × IsErrAnd r (λ y. y ≡ e) → r ≡ Err e
+passed_on {r = r} h = let p = err_from_is_err_and r h.1 in p.1 ∙ ap Err p.2
 
 -- ---- types
 pub no_types : (f : File) {o : Option ℕ} → o ≡ none → take_types f o ≡ wrong 5
@@ -52,80 +57,79 @@ started-alike : (ds es : List ℕ) (n : ℕ) → length ds ≡ length es → sta
 unfolding started cleared
 started-alike ds es n e = rw e
 
+-- ---- what is put, and what is told of it
+abbrev pub Told : Outcome → ℕ → Result (Unit {0}) Fault → Type 0
+Told p line r = MatchResult p (λ x. r ≡ Ok x) λ e. IsErrAnd r λ x. x ≡ fault (put_code e) line
+
 -- whatever stood in the declarations before
-pub types-line : (f : File) (ds : List ℕ) {line n : ℕ} {r : P.Put} {out : List ℕ} {o : Option ℕ} {a : Fault} → f.bases ≡ [] → f.variables ≡ [] → length ds ≡ size → o ≡ some n
-    → n ≤ max_names → r ≡ start_answer ds n → out ≡ leaves r (started ds n) ds → a ≡ fault 0 0 → Put declarations_of line (take_types f o) a out
+pub types-line : (f : File) (ds : List ℕ) {line n : ℕ} {p : Outcome} {out : List ℕ} {o : Option ℕ} {r : Result (Unit {0}) Fault} → f.bases ≡ [] → f.variables ≡ [] → length ds ≡ size → o ≡ some n
+    → n ≤ max_names → p ≡ start_answer ds n → out ≡ leaves p (started ds n) ds → Told p line r → Put declarations_of line (take_types f o) r out
 unfolding take_types start_answer leaves declarations_of put_bases put_variables
-types-line f ds {line} {n} {r} no-bases no-variables l s h a o b =
+types-line f ds {line} {n} {p} no-bases no-variables l s h a o t =
     let g : File = record { types = n; bases = f.bases; variables = f.variables; left = f.left; right = f.right; steps = f.steps } in
-    let d : r ≡ Puts.Done = a ∙ rw (eq-eqb _ _ l, le-leb _ _ h) in
+    let d : p ≡ done = a ∙ rw (eq-eqb _ _ l, le-leb _ _ h) in
     let m : length ds ≡ length zeros = l ∙ sym (length-replicate {A = ℕ} size 0) in
-    good-line g (ap (λ x. x.code) b) (rw s) (o ∙ rw (d, no-bases, no-variables) (started-alike ds zeros n m))
+    rw (rw d at t) (good-line g (rw s) (o ∙ rw (d, no-bases, no-variables) (started-alike ds zeros n m)))
 
--- ---- kinds
-five_kinds : (p q r s t : Bool) {n : ℕ} → cond p (some 0) (cond q (some 1) (cond r (some 2) (cond s (some 3) (cond t (some 7) none)))) ≡ some n → n ≤ 7
-five_kinds true q r s t {n} e = let z : 0 ≡ n = cc in omega arith
-five_kinds false true r s t {n} e = let z : 1 ≡ n = cc in omega arith
-five_kinds false false true s t {n} e = let z : 2 ≡ n = cc in omega arith
-five_kinds false false false true t {n} e = let z : 3 ≡ n = cc in omega arith
-five_kinds false false false false true {n} e = let z : 7 ≡ n = cc in omega arith
-five_kinds false false false false false e = absurd (let z : ◌≡◌ {A = ℕ} 0 1 = cc in omega arith)
+put-line : (t : Bool) (g : File) (ds : List ℕ) {l : Line} {line : ℕ} {p : Outcome} {r : Result (Unit {0}) Fault} {out made : List ℕ} → l ≡ cond t (good g) (wrong 7) → p ≡ cond t done (P.refused Bad)
+    → Told p line r → out ≡ leaves p made ds → made ≡ declarations_of g → Put declarations_of line l r out
+unfolding leaves
+put-line true g ds k p t o m = rw (rw p at t) (good-line g k (rw p at o ∙ m))
+put-line false g ds {r = r} k p t o m = let e = err_from_is_err_and r (rw p at t) in rw e.1 (wrong-line e.2 k)
 
-kind-few : (b n : ℕ) → kind_of_letter b ≡ some n → n ≤ 7
-unfolding kind_of_letter
-kind-few b n e = five_kinds (eqb b 83) (eqb b 75) (eqb b 66) (eqb b 79) (eqb b 85) e
+-- ---- a basis
+module _ (f : File) (sound : WellDeclared f) {ds : List ℕ} (e : ds ≡ declarations_of f) (s : Text) where
+  basis_full : full Basis f ≡ eqb (get_or ds 1 0) 32
+  unfolding full
+  basis_full = rw (e, (declared f sound).bases)
 
--- no letter is a basis's
-no_basis : (t : Bool) (b : ℕ) (o : Option ℕ) → kind_of_letter b ≡ o → eqb (cond t 8 (kind_number o)) 9 ≡ false
-unfolding kind_number
-no_basis true b o e = refl
-no_basis false b none e = refl
-no_basis false b (some n) e = let h = kind-few b n e in ne_eqb n 9 λ z. omega arith
+  pub bases-full : get_or ds 1 0 ≡ 32 → ordered Basis f s ≡ wrong 6
+  bases-full z = rw (basis_full, z)
 
--- a basis has the kind 9, and is counted by word 1; a variable by word 2
-kind-place : (k : ℕ) (s : Text) → 1 ≤ k → k ≤ 2 → cond (eqb (kind_in k s) 9) 1 2 ≡ k
-unfolding kind_in
-kind-place zero s h l = absurd (omega arith)
-kind-place (suc zero) s h l = refl
-kind-place (suc (suc zero)) s h l = rw (no_basis (eqb (length s) 0) (get_or s 0 0) (kind_of_letter (get_or s 0 0)) refl)
-kind-place (suc (suc (suc k))) s h l = absurd (omega arith)
+  module _ (next : get_or ds 1 0 ≢ 32) where
+    basis_ordered : ordered Basis f s ≡ take_basis f (tokens_in s)
+    unfolding take_value
+    basis_ordered = rw (basis_full, ne_eqb _ 32 next)
 
--- ---- a basis or a variable, by its kind and its words
-take_name : File → ℕ → Option (List ℕ) → Line
-take_name f kind none = wrong 5
-take_name f kind (some ws) = cond (is_named f.types kind ws) (good (and_name f kind ws)) (wrong 7)
+    pub basis_malformed : tokens_in s ≡ none → ordered Basis f s ≡ wrong 5
+    unfolding take_basis
+    basis_malformed z = basis_ordered ∙ rw z
 
-basis_name : (f : File) (o : Option (List ℕ)) → take_basis f o ≡ take_name f 9 o
-unfolding take_basis take_name is_named and_name
-basis_name f none = refl
-basis_name f (some b) = refl
+    module _ {ws : List ℕ} (w : tokens_in s ≡ some ws) where
+      basis_tested : ordered Basis f s ≡ cond (is_index f.types ws) (good (and_basis f ws)) (wrong 7)
+      unfolding take_basis
+      basis_tested = basis_ordered ∙ rw w
 
-variable_name : (f : File) (kind : ℕ) (o : Option (List ℕ)) → kind ≤ 7 → take_variable f (variable_of (some kind) o) ≡ take_name f kind o
-unfolding take_variable variable_of take_name is_named and_name
-variable_name f kind none h = refl
-variable_name f kind (some ws) h = rw (ne_eqb kind 9 λ z. omega arith)
+      pub basis_long : 126 < length ws → ordered Basis f s ≡ wrong 7
+      basis_long h = basis_tested ∙ go (is_index f.types ws) refl
+        where
+          go : (t : Bool) → is_index f.types ws ≡ t → cond t (good (and_basis f ws)) (wrong 7) ≡ wrong 7
+          go true t = absurd (let p = index_tests f.types ws t in omega arith)
+          go false t = refl
 
-letter_name : (f : File) (b : ℕ) (s : Text) (o : Option ℕ) → kind_of_letter b ≡ o
-    → take_variable f (variable_of o (words_behind s)) ≡ cond (eqb (kind_number o) 8) (wrong 5) (take_name f (kind_number o) (words_in (kind_number o) (b ∷ s)))
-unfolding kind_number words_in take_variable variable_of
-letter_name f b s none e = refl
-letter_name f b s (some n) e =
-    let h = kind-few b n e in
-    variable_name f n (words_behind s) h ∙ rw (ne_eqb n 8 (λ z. omega arith), ne_eqb n 9 (λ z. omega arith))
+      pub basis-line : {line : ℕ} {p : Outcome} {r : Result (Unit {0}) Fault} {out : List ℕ} → f.variables ≡ [] → p ≡ answer (room ds 1) (is_index (get_or ds 0 0) ws)
+          → out ≡ leaves p (basis_put ds ws) ds → Told p line r → Put declarations_of line (ordered Basis f s) r out
+      unfolding answer declarations_of put_variables
+      basis-line {p = p} v a o t =
+          let few = sound.few_bases in
+          let counted = (declared f sound).bases in
+          let roomy : room ds 1 ≡ done = rw e (room-bases f sound (let n = rw e at next in omega arith)) in
+          let types : get_or ds 0 0 ≡ f.types = rw e (declared f sound).types in
+          let fit : p ≡ cond (is_index f.types ws) done (P.refused Bad) = a ∙ rw (roomy, types) in
+          put-line (is_index f.types ws) (and_basis f ws) ds basis_tested fit t o (rw (e, v, bases-more))
 
-value_name : (f : File) (k : ℕ) (s : Text) → 1 ≤ k → k ≤ 2
-    → take_value (key_at k) f s ≡ cond (eqb (kind_in k s) 8) (wrong 5) (take_name f (kind_in k s) (words_in (kind_in k s) s))
-unfolding take_value kind_in words_in variable_in take_variable
-value_name f zero s h l = absurd (omega arith)
-value_name f (suc zero) s h l = basis_name f (tokens_in s)
-value_name f (suc (suc zero)) [] h l = refl
-value_name f (suc (suc zero)) (b ∷ s) h l = letter_name f b s (kind_of_letter b) refl ∙ rw (ne_eqb (length (b ∷ s)) 0 λ z. omega arith)
-value_name f (suc (suc (suc k))) s h l = absurd (omega arith)
+    pub basis_unread : {A : Type 0} {line : ℕ} {out out' : List ℕ} {e : Fault} → WordsRead (tokens_in s) line out out' (Err e) → length out ≡ 126 → Put {A = A} declarations_of line (ordered Basis f s) (Err e) ds
+    basis_unread (malformed _ o) l = wrong-line refl (basis_malformed o)
+    basis_unread (too_many _ o h) l = wrong-line refl (basis_long o (omega arith))
 
-named-few : (t : Bool) (N kind : ℕ) (ws : List ℕ) → eqb kind 9 ≡ t → is_named N kind ws ≡ true → length ws ≤ 126
-unfolding is_named
-named-few true N kind ws e n = let p = index_tests N ws (rw e at n) in omega arith
-named-few false N kind ws e n = go (marked kind) (variable_few N kind (take at ws) (cond (marked kind) ws (drop at ws)) (rw e at n))
+    pub basis_read : {line n : ℕ} {p : Outcome} {r : Result (Unit {0}) Fault} {before words out : List ℕ} → WordsRead (tokens_in s) line before words (Ok n) → f.variables ≡ []
+        → p ≡ answer (room ds 1) (is_index (get_or ds 0 0) (take n words)) → out ≡ leaves p (basis_put ds (take n words)) ds → Told p line r
+        → Put declarations_of line (ordered Basis f s) r out
+    basis_read (few _ o _ _ t) v a l told = basis-line o v (rw t at a) (rw t at l) told
+
+-- ---- a variable
+named-few : (N kind : ℕ) (ws : List ℕ) → (let v = variable_with kind ws in is_variable N kind v.first v.second) ≡ true → length ws ≤ 126
+named-few N kind ws n = go (marked kind) (variable_few N kind (take at ws) (cond (marked kind) ws (drop at ws)) n)
   where
     at : ℕ
     at = cond (eqb kind 3) (length (part ws 0)) (length ws)
@@ -134,96 +138,71 @@ named-few false N kind ws e n = go (marked kind) (variable_few N kind (take at w
     go true p = omega arith
     go false p = omega (arith, length-take at ws, length-drop at ws)
 
-too_long : (N kind : ℕ) (ws : List ℕ) → 126 < length ws → is_named N kind ws ≡ false
-too_long N kind ws h = by (is_named N kind ws) refl
-  where
-    by : (t : Bool) → is_named N kind ws ≡ t → is_named N kind ws ≡ false
-    by true t = absurd (let p = named-few (eqb kind 9) N kind ws refl t in omega arith)
-    by false t = t
+module _ (f : File) (sound : WellDeclared f) {ds : List ℕ} (e : ds ≡ declarations_of f) (s : Text) where
+  variable_full : full Var f ≡ eqb (get_or ds 2 0) 32
+  unfolding full
+  variable_full = rw (e, (declared f sound).variables)
 
-pub first-within : (kind : ℕ) (ws : List ℕ) {n : ℕ} → n ≡ cond (eqb kind 3) (length (part ws 0)) (length ws) → n ≤ length ws
-first-within kind ws {n} e = go (eqb kind 3) (part_length ws 0) e
-  where
-    go : (t : Bool) → length (part ws 0) ≤ length ws - 0 → n ≡ cond t (length (part ws 0)) (length ws) → n ≤ length ws
-    go true h e = omega arith
-    go false h e = omega arith
+  pub variables-full : get_or ds 2 0 ≡ 32 → ordered Var f s ≡ wrong 6
+  variables-full z = rw (variable_full, z)
 
--- what is put
-pub basis_words_put : {ds ws out : List ℕ} {kind : ℕ} {r : P.Put} → kind ≡ 9 → r ≡ answer (room ds 1) (is_index (get_or ds 0 0) ws) → out ≡ leaves r (basis_put ds ws) ds → PutWords ds kind ws r out
-unfolding is_named name_put
-basis_words_put h a o = record { answer = a ∙ rw h; words = o ∙ rw h }
+  module _ (next : get_or ds 2 0 ≢ 32) where
+    variable_ordered : ordered Var f s ≡ take_variable f (variable_in s)
+    unfolding take_value
+    variable_ordered = rw (variable_full, ne_eqb _ 32 next)
 
-pub marked-words-put : {ds out : List ℕ} (ws : List ℕ) {kind : ℕ} {r : P.Put} → kind ≢ 9 → 4 ≤ kind
-    → r ≡ answer (room ds 2) (is_variable (get_or ds 0 0) kind ws ws) → out ≡ leaves r (variable_put ds kind ws ws) ds → PutWords ds kind ws r out
-unfolding is_named name_put
-marked-words-put ws {kind} h m a o =
-    let one = ne_eqb kind 3 (λ z. omega arith) in
-    record { answer = a ∙ rw (ne_eqb kind 9 h, one, le-leb 4 kind m, take-length); words = o ∙ rw (ne_eqb kind 9 h, one, le-leb 4 kind m, take-length) }
+    pub letterless : length s ≡ 0 → ordered Var f s ≡ wrong 5
+    unfolding variable_in take_variable
+    letterless z = variable_ordered ∙ go s z
+      where
+        go : (s : Text) → length s ≡ 0 → take_variable f (variable_in s) ≡ wrong 5
+        go [] z = refl
+        go (b ∷ s) z = absurd (omega arith)
 
-pub variable_words_put : {ds out : List ℕ} (ws : List ℕ) {kind n : ℕ} {r : P.Put} → kind ≢ 9 → kind < 4 → n ≡ cond (eqb kind 3) (length (part ws 0)) (length ws)
-    → r ≡ answer (room ds 2) (is_variable (get_or ds 0 0) kind (take n ws) (take (length ws - n) (drop n ws))) → out ≡ leaves r (variable_put ds kind (take n ws) (take (length ws - n) (drop n ws))) ds
-    → PutWords ds kind ws r out
-unfolding is_named name_put
-variable_words_put ws {kind} {n} h u e a o =
-    let t = to_end ws n in
-    let x = rw (t, e) at a in
-    let y = rw (t, e) at o in
-    record { answer = x ∙ rw (ne_eqb kind 9 h, lt-leb 4 kind u); words = y ∙ rw (ne_eqb kind 9 h, lt-leb 4 kind u) }
+    module _ {b : ℕ} {t : Text} (are : s ≡ b ∷ t) where
+      pub kindless : kind_of_letter b ≡ none → ordered Var f s ≡ wrong 5
+      unfolding variable_in variable_of take_variable
+      kindless k = variable_ordered ∙ rw (are, k)
 
--- ---- the line of a name, where the declarations are those of the file
-counted : (f : File) → WellDeclared f → (k : ℕ) → 1 ≤ k → k ≤ 2
-    → (full (key_at k) f ≡ eqb (get_or (declarations_of f) k 0) 32) × (get_or (declarations_of f) k 0 ≢ 32 → room (declarations_of f) k ≡ Puts.Done)
-unfolding full
-counted f sound zero h l = absurd (omega arith)
-counted f sound (suc zero) h l = let c = (declared f sound).bases in let few = sound.few_bases in (rw c, λ z. room-bases f sound (omega arith))
-counted f sound (suc (suc zero)) h l = let c = (declared f sound).variables in let few = sound.few_variables in (rw c, λ z. room-variables f sound (omega arith))
-counted f sound (suc (suc (suc k))) h l = absurd (omega arith)
+      module _ (kind : Kind) (k : kind_of_letter b ≡ some (word_of kind)) where
+        pub variable_malformed : words_behind t ≡ none → ordered Var f s ≡ wrong 5
+        unfolding variable_in variable_of take_variable
+        variable_malformed z = variable_ordered ∙ rw (are, k, z)
 
-module _ (f : File) {ds : List ℕ} (e : ds ≡ declarations_of f) where
-  name_put_lem : (t : Bool) (kind : ℕ) (ws : List ℕ) → eqb kind 9 ≡ t → (kind ≡ 9 → f.variables ≡ []) → name_put ds kind ws ≡ declarations_of (and_name f kind ws)
-  unfolding name_put and_name declarations_of put_variables
-  name_put_lem true kind ws t v = rw (t, e, v (eqb-true kind 9 t), bases-more)
-  name_put_lem false kind ws t v = rw (t, e, variables-more)
+        module _ {ws : List ℕ} (w : words_behind t ≡ some ws) where
+          abbrev fits : Bool
+          fits = let v = variable_with (word_of kind) ws in is_variable f.types v.kind v.first v.second
 
-  name_by : (t : Bool) (kind : ℕ) (ws : List ℕ) {line : ℕ} {r : P.Put} {out : List ℕ} {a : Fault} → is_named f.types kind ws ≡ t → (kind ≡ 9 → f.variables ≡ [])
-      → r ≡ cond t Puts.Done Puts.Bad → out ≡ leaves r (name_put ds kind ws) ds → a ≡ fault (put_code r) line → Put declarations_of line (take_name f kind (some ws)) a out
-  unfolding take_name leaves
-  name_by true kind ws t v d o a = good-line (and_name f kind ws) (ap (λ x. x.code) a ∙ rw d) (rw t) (o ∙ rw d (name_put_lem (eqb kind 9) kind ws refl v))
-  name_by false kind ws t v d o a = wrong-line {c = 7} (a ∙ rw d) (rw t)
+          variable_tested : ordered Var f s ≡ cond fits (good (and_variable f (variable_with (word_of kind) ws))) (wrong 7)
+          unfolding variable_in variable_of take_variable
+          variable_tested = variable_ordered ∙ rw (are, k, w)
 
-module _ (f : File) (sound : WellDeclared f) {ds : List ℕ} (e : ds ≡ declarations_of f) {k : ℕ} (low : 1 ≤ k) (high : k ≤ 2) (s : Text) where
-  full_is : full (key_at k) f ≡ eqb (get_or ds k 0) 32
-  full_is = rw e (counted f sound k low high).0
+          pub variable_long : 126 < length ws → ordered Var f s ≡ wrong 7
+          variable_long h = variable_tested ∙ go fits refl
+            where
+              go : (t : Bool) → fits ≡ t → cond t (good (and_variable f (variable_with (word_of kind) ws))) (wrong 7) ≡ wrong 7
+              go true t = absurd (let p = named-few f.types (word_of kind) ws t in omega arith)
+              go false t = refl
 
-  pub name_full : get_or ds k 0 ≡ 32 → ordered (key_at k) f s ≡ wrong 6
-  name_full z = rw (full_is, z)
+          pub variable-line : {line : ℕ} {p : Outcome} {r : Result (Unit {0}) Fault} {out : List ℕ}
+              → p ≡ (let v = variable_with (word_of kind) ws in answer (room ds 2) (is_variable (get_or ds 0 0) v.kind v.first v.second))
+              → out ≡ (let v = variable_with (word_of kind) ws in leaves p (variable_put ds v.kind v.first v.second) ds) → Told p line r → Put declarations_of line (ordered Var f s) r out
+          unfolding answer declarations_of
+          variable-line {p = p} a o t =
+              let few = sound.few_variables in
+              let counted = (declared f sound).variables in
+              let roomy : room ds 2 ≡ done = rw e (room-variables f sound (let n = rw e at next in omega arith)) in
+              let types : get_or ds 0 0 ≡ f.types = rw e (declared f sound).types in
+              let fit : p ≡ cond fits done (P.refused Bad) = a ∙ rw (roomy, types) in
+              put-line fits (and_variable f (variable_with (word_of kind) ws)) ds variable_tested fit t o (rw (e, variables-more))
 
-  module _ (next : get_or ds k 0 ≢ 32) {kind : ℕ} (i : kind ≡ kind_in k s) where
-    by_kind : ordered (key_at k) f s ≡ cond (eqb kind 8) (wrong 5) (take_name f kind (words_in kind s))
-    by_kind = rw (full_is, ne_eqb _ 32 next, i) (value_name f k s low high)
+        pub variable_unread : {A : Type 0} {line : ℕ} {out out' : List ℕ} {e : Fault} → WordsRead (words_behind t) line out out' (Err e) → length out ≡ 126
+            → Put {A = A} declarations_of line (ordered Var f s) (Err e) ds
+        variable_unread (malformed _ o) l = wrong-line refl (variable_malformed o)
+        variable_unread (too_many _ o h) l = wrong-line refl (variable_long o (omega arith))
 
-    pub letterless : kind ≡ 8 → ordered (key_at k) f s ≡ wrong 5
-    letterless z = by_kind ∙ rw z
-
-    module _ (known : kind ≢ 8) where
-      named : ordered (key_at k) f s ≡ take_name f kind (words_in kind s)
-      named = by_kind ∙ rw (ne_eqb kind 8 known)
-
-      pub unworded : words_in kind s ≡ none → ordered (key_at k) f s ≡ wrong 5
-      unfolding take_name
-      unworded z = named ∙ rw z
-
-      module _ {ws : List ℕ} (w : words_in kind s ≡ some ws) where
-        pub long_name : 126 < length ws → ordered (key_at k) f s ≡ wrong 7
-        unfolding take_name
-        long_name h = named ∙ rw (w, too_long f.types kind ws h)
-
-        pub name_line : {vs : List ℕ} {line : ℕ} {r : P.Put} {out : List ℕ} {a : Fault} → vs ≡ ws → (k ≡ 1 → f.variables ≡ []) → PutWords ds kind vs r out → {c : ℕ} → c ≡ put_code r
-            → a ≡ fault c line → Put declarations_of line (ordered (key_at k) f s) a out
-        unfolding answer
-        name_line {line = line} q v d m a =
-            let place : cond (eqb kind 9) 1 2 ≡ k = rw i (kind-place k s low high) in
-            let done : room ds k ≡ Puts.Done = rw e ((counted f sound k low high).1 (rw e at next)) in
-            let types : get_or ds 0 0 ≡ f.types = rw e (declared f sound).types in
-            rw (named, w)
-            (name_by f e (is_named f.types kind ws) kind ws refl (λ z. v (sym (rw z at place))) (d.answer ∙ rw (place, done, types, q)) (d.words ∙ rw q) (a ∙ ap (λ x. fault x line) m))
+        pub variable_read : {line n : ℕ} {p : Outcome} {r : Result (Unit {0}) Fault} {before words out : List ℕ} → WordsRead (words_behind t) line before words (Ok n)
+            → p ≡ (let v = variable_with (word_of kind) (take n words) in answer (room ds 2) (is_variable (get_or ds 0 0) v.kind v.first v.second))
+            → out ≡ (let v = variable_with (word_of kind) (take n words) in leaves p (variable_put ds v.kind v.first v.second) ds) → Told p line r
+            → Put declarations_of line (ordered Var f s) r out
+        variable_read (few _ o _ _ t) a l told = variable-line o (rw t at a) (rw t at l) told

@@ -1,143 +1,142 @@
 // The lines that declare: types, bases and variables.
-ghost use Rattle.std.specs.Prelude.{◌≡◌, cond, [], ◌≤◌, eqb, length};
-ghost use Rattle.term.specs.Parts.{part};
+ghost use Rattle.std.specs.Prelude.{◌≡◌, MatchOption, [], length, get_or};
+ghost use Rattle.std.proofs.Math.Option.{none, some};
 ghost use Rattle.term.specs.Terms.{max_names};
+ghost use Rattle.declarations.specs.Put.{room, answer, leaves, variable_put};
+ghost use Rattle.declarations.specs.Declarations.{is_variable};
 ghost use Rattle.text.specs.Numbers.{at_most};
-ghost use Rattle.format.specs.Files.{File, WellDeclared};
-ghost use Rattle.format.specs.Reading.{kind_of_letter, take_types};
+ghost use Rattle.text.specs.Tokens.{tokens_in};
+ghost use Rattle.format.specs.Files.{Basis, File, Var, WellDeclared};
+ghost use Rattle.format.specs.Reading.{kind_of_letter, take_types, variable_with, words_behind};
 ghost use Rattle.format.specs.Kept.{declarations_of};
-ghost use Rattle.reader.specs.Code.Keys.{key_at};
+ghost use Rattle.reader.specs.Code.Keys.{word_of};
 ghost use Rattle.reader.specs.Code.Lines as L;
-ghost use Rattle.reader.specs.Code.Lines.{ordered, put_code, kind_number, kind_in, WordsRead, PutWords};
+ghost use Rattle.reader.specs.Code.Lines.{fault, ordered, put_code, WordsRead};
 
 use crate::faults::{Fault, refused};
-use declarations::constructor::{Put, put_basis, put_variable, start};
+use declarations::SIZE;
+use declarations::constructor::{PutError, put_basis, put_variable, start};
 use term::parts::part_end;
-use text::numbers::{Number, read_number};
-use text::tokens::{Tokens, read_tokens};
+use text::numbers::read_number;
+use text::tokens::read_tokens;
+
+// The kinds of a variable, each by the word that declarations have for it (so `as u16` below); a `Unitary` is a marked operator. Neither `Class` of `term` nor `Kind` of `typing` serves: the one
+// has no numbers and no mark, the other holds the lengths of a type's indices.
+#[derive(Clone, Copy)]
+enum Kind {
+    Scalar = 0,
+    Ket = 1,
+    Bra = 2,
+    Operator = 3,
+    Unitary = 7,
+}
+
+// A variable's kind by its letter.
+fn kind_of(letter: u8) -> Option<Kind>
+    ensures { MatchOption result (kind_of_letter letter ≡ none) (λ k. kind_of_letter letter ≡ some (word_of k)) }
+{
+    match letter {
+        b'S' => Some(Kind::Scalar),
+        b'K' => Some(Kind::Ket),
+        b'B' => Some(Kind::Bra),
+        b'O' => Some(Kind::Operator),
+        b'U' => Some(Kind::Unitary),
+        _ => None,
+    }
+}
 
 // The types of a file, before any other name.
-pub fn take_types(text: &[u8], line: usize, ds: &mut [u16]) -> Fault
-    requires { length ds.old ≡ 6179 }
-    ensures { (length ds.new ≡ length ds.old) × ((f : File) → f.bases ≡ [] → f.variables ≡ [] → L.Put declarations_of line
-        (take_types f (at_most max_names text.now)) result ds.new) }
+pub fn take_types(text: &[u8], line: usize, ds: &mut [u16; SIZE]) -> Result<(), Fault>
+    ensures { (f : File) → f.bases ≡ [] → f.variables ≡ [] → L.Put declarations_of line
+        (take_types f (at_most max_names text.now)) result ds.new }
 {
-    let Number::Value(n) = read_number(text) else {
-        return refused(5, line);
+    let Some(n) = read_number(text) else {
+        return Err(refused(5, line));
     };
     if 32 < n {
-        return refused(5, line);
+        return Err(refused(5, line));
     }
-    start(ds, n);
-    refused(0, 0)
+    start(ds, n).map_err(|e| put_fault(e, line))
 }
 
-// The code of a line that puts a name.
-fn put_code(put: Put) -> usize
-    ensures { result ≡ put_code put }
+// How many words an index has, of no more than there is room for.
+fn read_words(text: &[u8], line: usize, out: &mut [u16]) -> Result<usize, Fault>
+    ensures { WordsRead (tokens_in text.now) line out.old out.new result }
 {
-    match put {
-        Put::Done => 0,
-        Put::WrongSize => 7,
-        Put::Full => 6,
-        Put::Bad => 7,
+    let Some(n) = read_tokens(text, out) else {
+        return Err(refused(5, line));
+    };
+    if out.len() < n {
+        return Err(refused(7, line));
+    }
+    Ok(n)
+}
+
+// The same of the tokens behind a letter, each behind a space.
+fn read_words_behind(text: &[u8], line: usize, out: &mut [u16]) -> Result<usize, Fault>
+    ensures { WordsRead (words_behind text.now) line out.old out.new result }
+{
+    match text {
+        [] => Ok(0),
+        [b' ', tokens @ ..] => read_words(tokens, line, out),
+        _ => Err(refused(5, line)),
     }
 }
 
-// A variable's kind by its letter; 8 for any other byte.
-fn kind_of(letter: u8) -> u16
-    ensures { result ≡ kind_number (kind_of_letter letter) }
+// The fault of a line whose types, basis or variable cannot be put. No `From`: the line is no part of the error.
+fn put_fault(e: PutError, line: usize) -> Fault
+    ensures { result ≡ fault (put_code e) line }
 {
-    if letter == 83 {
-        return 0;
+    match e {
+        PutError::Full => refused(6, line),
+        PutError::WrongSize | PutError::Bad => refused(7, line),
     }
-    if letter == 75 {
-        return 1;
-    }
-    if letter == 66 {
-        return 2;
-    }
-    if letter == 79 {
-        return 3;
-    }
-    if letter == 85 {
-        return 7;
-    }
-    8
 }
 
-// What the k-th key's line names: a variable's kind by its letter, or 9 for a basis; 8 where the letter is none.
-fn named_kind(k: usize, text: &[u8]) -> u16
-    ensures { result ≡ kind_in k text.now }
+// Puts a variable. A marked operator's index is both of its indices; another operator's second one begins where its first one ends.
+fn put_words(ds: &mut [u16], kind: Kind, words: &[u16]) -> Result<(), PutError>
+    ensures value { let v = variable_with (word_of kind) words.now in
+        result ≡ answer (room ds.old 2) (is_variable (get_or ds.old 0 0) v.kind v.first v.second) }
+    ensures ds_after { let v = variable_with (word_of kind) words.now in
+        ds.new ≡ leaves result (variable_put ds.old v.kind v.first v.second) ds.old }
 {
-    if k == 1 {
-        return 9;
+    let word = kind as u16;
+    match kind {
+        Kind::Scalar | Kind::Ket | Kind::Bra => put_variable(ds, word, words, &[]),
+        Kind::Operator => {
+            let n = part_end(words, 0);
+            put_variable(ds, word, &words[..n], &words[n..])
+        }
+        Kind::Unitary => put_variable(ds, word, words, words),
     }
-    if text.len() == 0 {
-        return 8;
-    }
-    kind_of(text[0])
 }
 
-// The words of what is named: the tokens of a basis, or those behind a letter, each behind a space.
-fn read_words(kind: u16, text: &[u8], out: &mut [u16]) -> Tokens
-    ensures { WordsRead kind text.now out.old result out.new }
+pub fn take_basis(text: &[u8], line: usize, ds: &mut [u16; SIZE]) -> Result<(), Fault>
+    ensures { (f : File) → WellDeclared f → f.variables ≡ [] → ds.old ≡ declarations_of f
+        → L.Put declarations_of line (ordered Basis f text.now) result ds.new }
 {
-    if kind == 9 {
-        return read_tokens(text, out);
-    }
-    if text.len() < 2 {
-        return Tokens::Count(0);
-    }
-    if text[1] != 32 {
-        return Tokens::Malformed;
-    }
-    read_tokens(&text[2..], out)
-}
-
-// How many words a variable's first index has: an operator's second one begins where it ends.
-fn first_length(kind: u16, words: &[u16]) -> usize
-    ensures { result ≡ cond (eqb kind 3) (length (part words.now 0)) (length words.now) }
-{
-    if kind == 3 {
-        return part_end(words, 0);
-    }
-    words.len()
-}
-
-// Puts a basis, or a variable: a marked operator's index is both of its indices.
-fn put_words(ds: &mut [u16], kind: u16, words: &[u16]) -> Put
-    ensures { PutWords ds.old kind words.now result ds.new }
-{
-    if kind == 9 {
-        return put_basis(ds, words);
-    }
-    if 4 <= kind {
-        return put_variable(ds, kind, words, words);
-    }
-    let n = first_length(kind, words);
-    put_variable(ds, kind, &words[..n], &words[n..])
-}
-
-// A basis (1) or a variable (2), which is also the word that counts them.
-pub fn take_name(k: usize, text: &[u8], line: usize, ds: &mut [u16]) -> Fault
-    requires { (length ds.old ≡ 6179) × (1 ≤ k) × (k ≤ 2) }
-    ensures { (length ds.new ≡ length ds.old) × ((f : File) → WellDeclared f → (k ≡ 1 → f.variables ≡ []) → ds.old ≡ declarations_of f
-        → L.Put declarations_of line (ordered (key_at k) f text.now) result ds.new) }
-{
-    if ds[k] == 32 {
-        return refused(6, line);
-    }
-    let kind = named_kind(k, text);
-    if kind == 8 {
-        return refused(5, line);
+    if ds[1] == 32 {
+        return Err(refused(6, line));
     }
     let mut words = [0u16; 126];
-    let Tokens::Count(n) = read_words(kind, text, &mut words) else {
-        return refused(5, line);
-    };
-    if 126 < n {
-        return refused(7, line);
+    let n = read_words(text, line, &mut words)?;
+    put_basis(ds, &words[..n]).map_err(|e| put_fault(e, line))
+}
+
+pub fn take_variable(text: &[u8], line: usize, ds: &mut [u16; SIZE]) -> Result<(), Fault>
+    ensures { (f : File) → WellDeclared f → ds.old ≡ declarations_of f
+        → L.Put declarations_of line (ordered Var f text.now) result ds.new }
+{
+    if ds[2] == 32 {
+        return Err(refused(6, line));
     }
-    refused(put_code(put_words(ds, kind, &words[..n])), line)
+    let Some((letter, behind)) = text.split_first() else {
+        return Err(refused(5, line));
+    };
+    let Some(kind) = kind_of(*letter) else {
+        return Err(refused(5, line));
+    };
+    let mut words = [0u16; 126];
+    let n = read_words_behind(behind, line, &mut words)?;
+    put_words(ds, kind, &words[..n]).map_err(|e| put_fault(e, line))
 }

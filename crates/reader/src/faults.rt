@@ -1,8 +1,9 @@
-// What a line is answered.
+// What ends the reading of a file.
 ghost use Rattle.std.specs.Prelude.{◌≡◌};
 ghost use Rattle.reader.specs.Code.Lines.{fault};
 
-// A code with its line; or code 0 with the words of the line's term, 0 where it has none.
+// A published code, with its line. The codes stay numbers: the file's form and every answer are published over the numbers 1 to 9, and a caller gets the number itself. Whoever refuses is lent
+// the line for it: 01 has a step line answer "code 5 with the line" where a field is missing, and the other lines do alike, by a `let .. else` of the same form.
 #[derive(Clone, Copy)]
 pub struct Fault {
     pub code: usize,

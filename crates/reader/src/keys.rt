@@ -1,68 +1,93 @@
-// The keys of a file by number, in the order of `format` Reading from 0 on; the number behind the last is no key. What there is to know of a key is a digit of a number, the first key's on
-// the right.
-ghost use Rattle.std.specs.Prelude.{◌≡◌, ◌*◌, ◌/◌, ◌%◌, ◌^◌, ◌≤◌, true, length, drop};
-ghost use Rattle.words.specs.Listed.{all_up_to};
-ghost use Rattle.text.specs.Pieces.{starts};
-ghost use Rattle.format.specs.Files.{key_text};
+// The keys of a file, and the stages in which they come.
+ghost use Rattle.std.specs.Prelude.{◌≡◌, length, drop, MatchOption};
+ghost use Rattle.format.specs.Files.{Other, key_text};
 ghost use Rattle.format.specs.Reading.{key_of, fits, stage_after};
-ghost use Rattle.reader.specs.Code.Keys.{key_at};
+ghost use Rattle.reader.specs.Code.Keys.{named, number};
 
-use text::pieces::starts_with;
-
-fn digit(row: u64, k: usize) -> usize
-    requires { k ≤ 7 }
-    ensures { result ≡ row / 2 ^ (k * 4) % 16 }
-{
-    ((row >> (k * 4)) % 16) as usize
+// How far a file was read: before its types, among its bases, among its variables, behind its left side, among its steps, at its end.
+#[derive(Clone, Copy)]
+pub enum Stage {
+    Start,
+    Bases,
+    Variables,
+    LeftSide,
+    Steps,
+    End,
 }
 
-// How long a key is, with its `=`.
-pub fn key_length(k: usize) -> usize
-    requires { k ≤ 7 }
-    ensures { result ≡ length (key_text (key_at k)) }
-{
-    digit(0x04565466, k)
+#[derive(Clone, Copy)]
+pub enum Key {
+    Types,
+    Basis,
+    Var,
+    LeftTerm,
+    RightTerm,
+    Step,
+    End,
 }
 
-// The stage behind its line.
-pub fn stage_after(k: usize) -> usize
-    requires { k ≤ 7 }
-    ensures { result ≡ stage_after (key_at k) }
-{
-    digit(0x05443211, k)
-}
+const KEYS: [Key; 7] = [
+    Key::Types,
+    Key::Basis,
+    Key::Var,
+    Key::LeftTerm,
+    Key::RightTerm,
+    Key::Step,
+    Key::End,
+];
 
-// Whether it may come in a stage, by the first and the last in which it may.
-pub fn is_next(k: usize, stage: usize) -> bool
-    requires { (k ≤ 7) × (stage ≤ 5) }
-    ensures { result ≡ fits (key_at k) stage }
-{
-    if stage < digit(0x94431110, k) {
-        return false;
-    }
-    stage <= digit(0x04432210, k)
-}
-
-// The key that a line begins with, where each key begins the next eight bytes of a table.
-fn key_in(keys: &[u8], text: &[u8]) -> usize
-    requires { (length keys.now ≡ 56) × (all_up_to 7 (λ k. starts (key_text (key_at k)) (drop (k * 8) keys.now)) ≡ true) }
-    ensures { (result ≤ 7) × (key_of text.now ≡ key_at result) }
-{
-    let mut k = 0;
-    while k < 7 {
-        let from = k * 8;
-        let end = from + key_length(k);
-        if starts_with(text, &keys[from..end]) {
-            return k;
+impl Key {
+    // As it is written, with its `=`.
+    fn text(self) -> &'static [u8]
+        ensures { result.now ≡ key_text (named self) }
+    {
+        match self {
+            Key::Types => b"types=",
+            Key::Basis => b"basis=",
+            Key::Var => b"var=",
+            Key::LeftTerm => b"left=",
+            Key::RightTerm => b"right=",
+            Key::Step => b"step=",
+            Key::End => b"end=",
         }
-        k += 1;
     }
-    7
+
+    // The stage behind its line.
+    pub fn stage_after(self) -> Stage
+        ensures { number result ≡ stage_after (named self) }
+    {
+        match self {
+            Key::Types | Key::Basis => Stage::Bases,
+            Key::Var => Stage::Variables,
+            Key::LeftTerm => Stage::LeftSide,
+            Key::RightTerm | Key::Step => Stage::Steps,
+            Key::End => Stage::End,
+        }
+    }
+
+    // Whether it may come in a stage.
+    pub fn fits(self, stage: Stage) -> bool
+        ensures { result ≡ fits (named self) (number stage) }
+    {
+        match self {
+            Key::Types => matches!(stage, Stage::Start),
+            Key::Basis => matches!(stage, Stage::Bases),
+            Key::Var | Key::LeftTerm => matches!(stage, Stage::Bases | Stage::Variables),
+            Key::RightTerm => matches!(stage, Stage::LeftSide),
+            Key::Step | Key::End => matches!(stage, Stage::Steps),
+        }
+    }
 }
 
-pub fn key_of(text: &[u8]) -> usize
-    ensures { (result ≤ 7) × (key_of text.now ≡ key_at result) }
+// The key that a line begins with, and the value behind it.
+pub fn key_of(line: &[u8]) -> Option<(Key, &[u8])>
+    ensures { MatchOption result (key_of line.now ≡ Other)
+        (λ p. (key_of line.now ≡ named p.0) × (p.1.now ≡ drop (length (key_text (named p.0))) line.now)) }
 {
-    let keys = b"types=  basis=  var=    left=   right=  step=   end=    ";
-    key_in(keys, text)
+    for key in KEYS {
+        if let Some(value) = line.strip_prefix(key.text()) {
+            return Some((key, value));
+        }
+    }
+    None
 }

@@ -2,7 +2,7 @@
 #![tactic(auto)]
 
 mod declaring;
-mod faults;
+pub mod faults;
 pub mod files;
 mod keys;
 mod stepping;

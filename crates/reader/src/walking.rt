@@ -1,102 +1,76 @@
 // The lines of a file one after the other.
-ghost use Rattle.std.specs.Prelude.{◌≡◌, cond, ◌≤◌, eqb, length};
-ghost use Rattle.reader.specs.Code.Holding.{state_after, ValuedIn, LineRead};
+ghost use Rattle.std.specs.Prelude.{◌≤◌};
+ghost use Rattle.reader.specs.Code.Holding.{ValuedIn, LineRead};
 
-use crate::declaring::{take_name, take_types};
+use crate::declaring::{take_basis, take_types, take_variable};
 use crate::faults::{Fault, refused};
-use crate::keys::{is_next, key_length, key_of, stage_after};
+use crate::files::{STEPS_SIZE, TERM_SIZE};
+use crate::keys::{Key, Stage, key_of};
 use crate::stepping::{take_end, take_step};
 use crate::terms::take_term;
+use declarations::SIZE;
 
-// What was read so far: the stage, the lengths of the two terms, and how many steps there are. The stages are those of `format` Reading: 0 before the types, 1 among the
-// bases, 2 among the variables, 3 behind the left side, 4 among the steps, 5 at the end.
+// What was read so far: the stage, the lengths of the two terms, and how many steps there are. Not a stage and a `Read`: the line of each key changes one of the four, and would name the `Read` between.
 #[derive(Clone, Copy)]
 pub struct State {
-    pub stage: usize,
+    pub stage: Stage,
     pub left: usize,
     pub right: usize,
     pub steps: usize,
 }
 
-// A line's fault, and the state behind it.
-#[derive(Clone, Copy)]
-pub struct Taken {
-    pub fault: Fault,
-    pub state: State,
-}
-
-fn choose(k: usize, key: usize, own: usize, other: usize) -> usize
-    ensures { result ≡ cond (eqb k key) own other }
-{
-    if k == key {
-        return own;
-    }
-    other
-}
-
-// The state behind a line of the k-th key, whose term has so many words.
-fn moved(k: usize, s: State, words: usize) -> State
-    requires { (k ≤ 7) × (s.steps ≤ 1000) }
-    ensures { result ≡ state_after k s words }
-{
-    State {
-        stage: stage_after(k),
-        left: choose(k, 3, words, s.left),
-        right: choose(k, 4, words, s.right),
-        steps: choose(k, 5, s.steps + 1, s.steps),
-    }
-}
-
-// The value of the k-th key, which may come next.
+// The state behind the value of a key that may come next. The four lent arrays go one by one: a struct that lends them on would need four equations of ghost names in each contract.
 fn take_value(
-    k: usize,
+    key: Key,
     line: usize,
     value: &[u8],
     s: State,
-    ds: &mut [u16],
-    ls: &mut [u16],
-    rs: &mut [u16],
-    ms: &mut [u16],
-) -> Fault
-    requires { (length ds.old ≡ 6179) × (length ls.old ≡ 4096) × (length rs.old ≡ 4096) × (s.steps ≤ 1000) }
-    ensures { ValuedIn line k value.now s ds.old ls.old rs.old ms.old result ds.new ls.new
-        rs.new ms.new }
+    ds: &mut [u16; SIZE],
+    left: &mut [u16; TERM_SIZE],
+    right: &mut [u16; TERM_SIZE],
+    steps: &mut [u16; STEPS_SIZE],
+) -> Result<State, Fault>
+    requires { s.steps ≤ 1000 }
+    ensures { ValuedIn line key value.now s ds.old left.old right.old steps.old result ds.new left.new
+        right.new steps.new }
 {
-    match k {
-        0 => take_types(value, line, ds),
-        1 => take_name(1, value, line, ds),
-        2 => take_name(2, value, line, ds),
-        3 => take_term(value, line, ds, ls),
-        4 => take_term(value, line, ds, rs),
-        5 => take_step(value, line, ms, s.steps),
-        _ => take_end(value, line, s.steps),
+    let mut next = State {
+        stage: key.stage_after(),
+        ..s
+    };
+    match key {
+        Key::Types => take_types(value, line, ds)?,
+        Key::Basis => take_basis(value, line, ds)?,
+        Key::Var => take_variable(value, line, ds)?,
+        Key::LeftTerm => next.left = take_term(value, line, ds, left)?,
+        Key::RightTerm => next.right = take_term(value, line, ds, right)?,
+        Key::Step => {
+            take_step(value, line, steps, s.steps)?;
+            next.steps += 1;
+        }
+        Key::End => take_end(value, line, s.steps)?,
     }
+    Ok(next)
 }
 
-// A line, by its key.
+// The state behind a line, by its key.
 pub fn take_line(
     text: &[u8],
     line: usize,
     s: State,
-    ds: &mut [u16],
-    ls: &mut [u16],
-    rs: &mut [u16],
-    ms: &mut [u16],
-) -> Taken
-    requires { (length ds.old ≡ 6179) × (length ls.old ≡ 4096) × (length rs.old ≡ 4096) × (s.steps ≤ 1000) × (s.stage ≤ 5) }
-    ensures { LineRead text.now line s ds.old ls.old rs.old ms.old result ds.new ls.new rs.new ms.new }
+    ds: &mut [u16; SIZE],
+    left: &mut [u16; TERM_SIZE],
+    right: &mut [u16; TERM_SIZE],
+    steps: &mut [u16; STEPS_SIZE],
+) -> Result<State, Fault>
+    requires { s.steps ≤ 1000 }
+    ensures { LineRead text.now line s ds.old left.old right.old steps.old result ds.new left.new right.new steps.new }
 {
-    let k = key_of(text);
-    if !is_next(k, s.stage) {
-        return Taken {
-            fault: refused(4, line),
-            state: s,
-        };
+    let Some((key, value)) = key_of(text) else {
+        return Err(refused(4, line));
+    };
+    if !key.fits(s.stage) {
+        return Err(refused(4, line));
     }
-    let at = key_length(k);
-    let fault = take_value(k, line, &text[at..], s, ds, ls, rs, ms);
-    Taken {
-        fault,
-        state: moved(k, s, fault.at),
-    }
+    take_value(key, line, value, s, ds, left, right, steps)
 }

@@ -1,45 +1,23 @@
 // Replays the derivation on standard input and writes the six lines of its answer: code, side, step, at, and the two lengths in words.
 #![tactic(auto)]
 
-ghost use Rattle.std.specs.Prelude.{◌≤◌, IfOk, length};
-
 use file::replay::replay;
-use std::io::{self, Read, Stdin};
+use std::io::{self, Read};
 
-fn write_field(rt: &impl Print, name: &str, value: usize) -> io::Result<()> {
-    println!(rt; "{name}={value}")
-}
+// A file may have so many bytes; one more tells that it is too long.
+const MOST: u64 = 65536;
 
-fn answer(rt: &impl Print, file: &[u8]) -> io::Result<()> {
+fn main(rt: HostRuntime) -> io::Result<()> {
+    let mut file = Vec::new(rt.alloc());
+    rt.stdin().take(MOST + 1).read_to_end(&mut file)?;
     let mut left = [0u16; 4096];
     let mut right = [0u16; 4096];
-    let answer = replay(file, &mut left, &mut right);
-    write_field(rt, "code", answer.code)?;
-    write_field(rt, "side", answer.side)?;
-    write_field(rt, "step", answer.step)?;
-    write_field(rt, "at", answer.at)?;
-    write_field(rt, "left", answer.left)?;
-    write_field(rt, "right", answer.right)
-}
-
-// Reads until `room` is full or the input ends, and says how many bytes there were.
-fn read_full(mut input: Stdin, room: &mut [u8]) -> io::Result<usize>
-    ensures { IfOk result (λ n. n ≤ length room.old) }
-{
-    let mut done = 0;
-    while done < room.len() {
-        let got = input.read(&mut room[done..])?;
-        if got == 0 {
-            return Ok(done);
-        }
-        done += got;
-    }
-    Ok(done)
-}
-
-// One byte more than a file may have tells that it is too long.
-fn main(rt: HostRuntime) -> io::Result<()> {
-    let mut room = [0u8; 65537];
-    let n = read_full(rt.stdin(), &mut room)?;
-    answer(&rt, &room[..n])
+    let answer = replay(&file, &mut left, &mut right);
+    // A call for each line, since each has a name of its own: a loop over pairs would write the names and the fields as often.
+    println!(rt; "code={}", answer.code)?;
+    println!(rt; "side={}", answer.side)?;
+    println!(rt; "step={}", answer.step)?;
+    println!(rt; "at={}", answer.at)?;
+    println!(rt; "left={}", answer.left)?;
+    println!(rt; "right={}", answer.right)
 }

@@ -7,13 +7,13 @@ use native.Mathlib.Omega.{arith}
 use borrow.Author.Tests.{leb-true}
 use lib.Dec.{leb}
 use lib.ListN.{length, take, drop, length-drop, length-take, drop_of_length-le, take-append-drop}
-use lib.Seq.{take-nil, take-take, take-append-le, take-add, take_at, drop_at, drop-nil, drop-drop}
+use lib.Seq.{take-nil, take-take, take-append-le, take-add, take_at, drop_at, drop-drop}
 use Rattle.words.specs.Words.{overlaid}
 use Rattle.rules.specs.Patterns.{Pattern}
 use Rattle.rules.specs.Table.{Condition, ◌⇒◌▷◌, rule_of}
 use Rattle.rules.proofs.Every.{on_equations, equation_passes}
 use Rattle.rulebook.specs.Code.Rows.{pattern_words, words_in, row_of}
-use Rattle.rulebook.proofs.Rows.{words-past, sizes, sides-at, sides-inside}
+use Rattle.rulebook.proofs.Rows.{sizes, sides-at, sides-inside}
 
 -- ---- what is laid over the front
 laid_none : (dst : List ℕ) → dst ≡ overlaid dst []
@@ -22,14 +22,6 @@ laid_none dst = rw (take-nil (length dst))
 
 pub none_left : (dst ws : List ℕ) (from : ℕ) → length ws ≤ from → dst ≡ overlaid dst (drop from ws)
 none_left dst ws from h = rw (drop_of_length-le ws {i = from} h) (laid_none dst)
-
--- the words of the group that a rule is in
-pub laid_in : (g : ℕ) (dst : List ℕ) {out : List ℕ} (rule from : ℕ) → rule / 50 ≡ g → out ≡ overlaid dst (drop from (words_in g)) → out ≡ overlaid dst (drop from (words_in (rule / 50)))
-laid_in g dst rule from h l = rw h l
-
--- and of one past all rules, which has none
-pub laid-past : (dst : List ℕ) (rule from : ℕ) → 200 ≤ rule → dst ≡ overlaid dst (drop from (words_in (rule / 50)))
-laid-past dst rule from h = rw (words-past (rule / 50) (omega arith), drop-nil from) (laid_none dst)
 
 -- ---- both sides of an equation, one behind the other
 module _ (n : ℕ) {k : Condition} {l r : Pattern} (rule : rule_of n ≡ some (k ⇒ l ▷ r)) where

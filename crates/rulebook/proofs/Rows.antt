@@ -3,20 +3,22 @@ use mathlib.Core.Path.{◌≡◌, refl, sym, ◌∙◌, ap}
 use mathlib.Core.Bool.{Bool, true, false, cond, ◌&&◌, and-eq-true_iff, true≢false}
 use mathlib.Core.List.{List, [], ◌∷◌, ◌++◌, append_assoc}
 use mathlib.Core.Option.{some, none}
-use Prim.Native.Nat.{ℕ, ◌+◌, ◌-◌, ◌*◌, ◌/◌, ◌%◌, ◌≤◌, ◌<◌}
+use Prim.Native.Nat.{ℕ, ◌+◌, ◌*◌, ◌/◌, ◌%◌, ◌≤◌, ◌<◌}
 use native.Mathlib.Omega.{arith}
 use native.Mathlib.Decide.{dec_lt}
 use borrow.Author.Tests.{ltb-true, eqb-true, eq-eqb, ne_eqb}
 use lib.Dec.{eqb, ltb}
-use lib.ListN.{length, take, drop, get_or, length-append, length-drop}
+use lib.ListN.{length, take, drop, length-append, length-drop}
 use lib.Seq.{drop-drop, drop-append_seam, drop-append-add, take-append_seam}
-use Rattle.words.specs.Listed.{up_to, all_up_to}
-use Rattle.words.proofs.Listed.{up_to-read, all_up_to-at}
+use Rattle.words.specs.Listed.{all_up_to}
+use Rattle.words.proofs.Listed.{all_up_to-at}
 use Rattle.term.specs.Heads.{word}
 use Rattle.rules.specs.Patterns.{Pattern, #◌, first, second, ◌⟨⟩, ◌⟨◌⟩, ◌⟨◌∣◌⟩}
 use Rattle.rules.specs.Table.{Condition, Rule, ◌⇒◌▷◌, Line, ◌∶◌, table, find, rule_of}
 use Rattle.rulebook.specs.declared.Row.{Row}
-use Rattle.rulebook.specs.Code.Rows.{pattern_words, rule_words, words_of, grouped, lines_in, words_in, start_among, start_in, row, row_for, row_of, row_line, condition_number}
+use Rattle.rulebook.specs.declared.Family.{Family}
+use Rattle.rulebook.specs.declared.Family.TheVariants.{NoRule, Equation, Spread, Remove, Absorb, Merge, Collect, Swap, Distribute}
+use Rattle.rulebook.specs.Code.Rows.{pattern_words, rule_words, words_of, grouped, lines_in, words_in, start_among, start_in, row, row_for, row_of, row_line, digit_of, family_of, condition_number}
 
 -- ---- no rule has a number from 192 on
 below : ℕ → List Line → Bool
@@ -34,27 +36,32 @@ pub line-past : (n : ℕ) → 192 ≤ n → row_line (row_of n) ≡ 0
 unfolding row_line row_of rule_of row_for below
 line-past n h = rw (find_past 192 table refl n h)
 
--- the rows from a number on, as many as one array holds
-pub line_from : (from n rule : ℕ) → from ≤ rule → rule < from + n → get_or (up_to n (λ k. row_line (row_of (from + k)))) (rule - from) 0 ≡ row_line (row_of rule)
-line_from from n rule h l =
-    let z : from + (rule - from) ≡ rule = omega arith in
-    up_to-read n (λ k. row_line (row_of (from + k))) 0 (rule - from) (omega arith) ∙ rw z
-
 -- ---- a row is told by its digits: a computed test of every number
 abbrev row_in : ℕ → Row
-row_in w = record { family = w / 268435456 % 16; a = w / 1048576 % 256; b = w / 65536 % 16; c = w / 256 % 256; d = w % 256 }
+row_in w = record { family = family_of (w / 268435456); a = w / 1048576 % 256; b = w / 65536 % 16; c = w / 256 % 256; d = w % 256 }
+
+family-of-digit : (f : Family) → family_of (digit_of f) ≡ f
+family-of-digit NoRule = refl
+family-of-digit Equation = refl
+family-of-digit Spread = refl
+family-of-digit Remove = refl
+family-of-digit Absorb = refl
+family-of-digit Merge = refl
+family-of-digit Collect = refl
+family-of-digit Swap = refl
+family-of-digit Distribute = refl
 
 same_row : Row → Row → Bool
-same_row r s = eqb r.family s.family && (eqb r.a s.a && (eqb r.b s.b && (eqb r.c s.c && eqb r.d s.d)))
+same_row r s = eqb (digit_of r.family) (digit_of s.family) && (eqb r.a s.a && (eqb r.b s.b && (eqb r.c s.c && eqb r.d s.d)))
 
 same_row_lem : (r s : Row) → same_row r s ≡ true → r ≡ s
 unfolding same_row
 same_row_lem r s e =
-    let p = (and-eq-true_iff (eqb r.family s.family) _).0 e in
+    let p = (and-eq-true_iff (eqb (digit_of r.family) (digit_of s.family)) _).0 e in
     let q = (and-eq-true_iff (eqb r.a s.a) _).0 p.1 in
     let t = (and-eq-true_iff (eqb r.b s.b) _).0 q.1 in
     let u = (and-eq-true_iff (eqb r.c s.c) _).0 t.1 in
-    let f = eqb-true _ _ p.0 in
+    let f = sym (family-of-digit r.family) ∙ ap family_of (eqb-true _ _ p.0) ∙ family-of-digit s.family in
     let a = eqb-true _ _ q.0 in
     let b = eqb-true _ _ t.0 in
     let c = eqb-true _ _ u.0 in
@@ -143,7 +150,7 @@ module _ (n : ℕ) (ls : List Line) {k : Condition} {l r : Pattern} (e : find n 
 
 -- ---- the row of an equation: both sides are in its group, at the place and of the lengths that the row says
 module _ (n : ℕ) {k : Condition} {l r : Pattern} (e : rule_of n ≡ some (k ⇒ l ▷ r)) where
-  row_at : row_of n ≡ row 1 (start_among n (lines_in (n / 50))) (length (pattern_words l)) (length (pattern_words r)) (condition_number k)
+  row_at : row_of n ≡ row Equation (start_among n (lines_in (n / 50))) (length (pattern_words l)) (length (pattern_words r)) (condition_number k)
   unfolding row_of row_for start_in lines_in
   row_at = rw e
 

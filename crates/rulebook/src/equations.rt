@@ -1,6 +1,6 @@
 // The words of each equation's left side, and then of its right side, in document 01's encoding: 0x0701 is 7:1. A hole k is 0xff00 + k, the first and the second
-// index of the type of what hole k holds are 0xfe00 + k and 0xfd00 + k. They are in four arrays by the rules' numbers, as the rows of `lib.rt` are.
-pub const WORDS_FROM_0: [u16; 235] = [
+// index of the type of what hole k holds are 0xfe00 + k and 0xfd00 + k. They are in four arrays by the rules' numbers.
+pub static WORDS_FROM_0: [u16; 235] = [
     // 2 ADDSID: 7:1 #0 becomes #0
     0x0701, // 2 left 7:1
     0xff00, // 2 left #0
@@ -266,7 +266,7 @@ pub const WORDS_FROM_0: [u16; 235] = [
     0xff02, // 48 right #2
 ];
 
-pub const WORDS_FROM_50: [u16; 210] = [
+pub static WORDS_FROM_50: [u16; 210] = [
     // 50 ADDID: 20:1 #0 becomes #0
     0x1401, // 50 left 20:1
     0xff00, // 50 left #0
@@ -505,7 +505,7 @@ pub const WORDS_FROM_50: [u16; 210] = [
     0xff03, // 93 right #3
 ];
 
-pub const WORDS_FROM_100: [u16; 248] = [
+pub static WORDS_FROM_100: [u16; 248] = [
     // 100 MULK0: 22 14 #0 #1 #2 becomes 12 #0
     0x1600, // 100 left 22
     0x0e00, // 100 left 14
@@ -780,7 +780,7 @@ pub const WORDS_FROM_100: [u16; 248] = [
     0xff02, // 143 right #2
 ];
 
-pub const WORDS_FROM_150: [u16; 139] = [
+pub static WORDS_FROM_150: [u16; 139] = [
     // 150 MULO0: 25 14 #0 #1 #2 becomes 14 #0 second #2
     0x1900, // 150 left 25
     0x0e00, // 150 left 14

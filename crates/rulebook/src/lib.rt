@@ -5,24 +5,39 @@ mod equations;
 
 ghost use Rattle.std.specs.Prelude.{◌≡◌, ◌/◌, drop};
 ghost use Rattle.words.specs.Words.{overlaid};
-ghost use Rattle.rulebook.specs.Code.Rows.{row_of, row_line, words_in};
+ghost use Rattle.rulebook.specs.Code.Rows.{family_of, row_of, row_line, words_in};
 
 use crate::equations::{WORDS_FROM_0, WORDS_FROM_50, WORDS_FROM_100, WORDS_FROM_150};
 use words::copy_words;
 
-// What a rule is: its family, and what the family asks (`row_for` of specs/Code/Rows has the list).
+// What a number stands for: no rule, an equation, or a rule of one of seven families. `NoRule` and no `Option<Row>`: the table has a line for each number, so that no rule's too has a row.
+#[derive(Clone, Copy)]
+pub enum Family {
+    NoRule,
+    Equation,
+    Spread,
+    Remove,
+    Absorb,
+    Merge,
+    Collect,
+    Swap,
+    Distribute,
+}
+
+// What a rule is: its family, and what the family asks (`row_for` of specs/Code/Rows has the list). The four stay numbers and no variant's fields: each is a digit or two of the line in
+// `ROWS`, and `row_of` reads all rows in one way.
 #[derive(Clone, Copy)]
 pub struct Row {
-    pub family: u16,
+    pub family: Family,
     pub a: u16,
     pub b: u16,
     pub c: u16,
     pub d: u16,
 }
 
-// The row of each number from 0 to 191 in hexadecimal digits: one for the family, two for a, one for b, two each for c and d. A number that is no rule's has 0. The rows, and the
-// words of the equations, stand in four arrays, fifty numbers each, since a constant array is laid out item by item wherever it is read.
-const ROWS_FROM_0: [u32; 50] = [
+// The row of each number from 0 to 191 in hexadecimal digits: one for the family, two for a, one for b, two each for c and d. A number that is no rule's has 0. No array of `Row`: five
+// named fields for each of 192 numbers read no plainer than eight digits, and a row takes ten bytes where its digits take four.
+static ROWS: [u32; 192] = [
     0x00000000, // 0
     0x50000000, // 1 FLATTEN
     0x10020100, // 2 ADDSID
@@ -73,9 +88,6 @@ const ROWS_FROM_0: [u32; 50] = [
     0x1dd30303, // 47 SCRO0
     0x1e350300, // 48 SCRO1
     0x00000000, // 49
-];
-
-const ROWS_FROM_50: [u32; 50] = [
     0x10020100, // 50 ADDID
     0x60000000, // 51 ADD0
     0x60010000, // 52 ADD1
@@ -126,9 +138,6 @@ const ROWS_FROM_50: [u32; 50] = [
     0x00000000, // 97
     0x00000000, // 98
     0x00000000, // 99
-];
-
-const ROWS_FROM_100: [u32; 50] = [
     0x10050200, // 100 MULK0
     0x10740200, // 101 MULK1
     0x10d40100, // 102 MULK2
@@ -179,9 +188,6 @@ const ROWS_FROM_100: [u32; 50] = [
     0x00000000, // 147
     0x00000000, // 148
     0x00000000, // 149
-];
-
-const ROWS_FROM_150: [u32; 42] = [
     0x10050300, // 150 MULO0
     0x10850300, // 151 MULO1
     0x11040100, // 152 MULO2
@@ -230,28 +236,36 @@ const ROWS_FROM_150: [u32; 42] = [
 fn line_of(rule: usize) -> u32
     ensures { result ≡ row_line (row_of rule) }
 {
-    if rule < 50 {
-        return ROWS_FROM_0[rule];
-    }
-    if rule < 100 {
-        return ROWS_FROM_50[rule - 50];
-    }
-    if rule < 150 {
-        return ROWS_FROM_100[rule - 100];
-    }
-    if rule < 192 {
-        return ROWS_FROM_150[rule - 150];
+    if rule < ROWS.len() {
+        return ROWS[rule];
     }
     0
 }
 
-// The row of a rule, and one of zeros for a number that is no rule's.
+// The family that the first digit of a row stands for. No `TryFrom`: every digit of the table is a family's, or 0.
+fn family_of(digit: u32) -> Family
+    ensures { result ≡ family_of digit }
+{
+    match digit {
+        1 => Family::Equation,
+        2 => Family::Spread,
+        3 => Family::Remove,
+        4 => Family::Absorb,
+        5 => Family::Merge,
+        6 => Family::Collect,
+        7 => Family::Swap,
+        8 => Family::Distribute,
+        _ => Family::NoRule,
+    }
+}
+
+// The row of a rule, and one of no rule and zeros for a number that is no rule's.
 pub fn row_of(rule: usize) -> Row
     ensures { result ≡ row_of rule }
 {
     let line = line_of(rule);
     Row {
-        family: (line / 0x10000000 % 0x10) as u16,
+        family: family_of(line / 0x10000000),
         a: (line / 0x100000 % 0x100) as u16,
         b: (line / 0x10000 % 0x10) as u16,
         c: (line / 0x100 % 0x100) as u16,
@@ -268,28 +282,23 @@ fn copy_behind(words: &[u16], from: usize, out: &mut [u16])
     }
 }
 
-// Lays the words of the equations of a rule's group, which is its number divided by 50, from `from` on over the front of `out`, as many as both have: a side's words are copied
-// once, and read from there. Each array is copied in its own branch: arrays lent as constants are all laid out as the function begins.
+// The words of the equations of a group, which is a rule's number divided by 50. They are in four arrays, since a row's eight digits have two for the place at which its words begin.
+fn words_in(group: usize) -> &'static [u16]
+    ensures { result.now ≡ words_in group }
+{
+    match group {
+        0 => &WORDS_FROM_0,
+        1 => &WORDS_FROM_50,
+        2 => &WORDS_FROM_100,
+        3 => &WORDS_FROM_150,
+        _ => &[],
+    }
+}
+
+// Lays the words of the equations of a rule's group from `from` on over the front of `out`, as many as both have. They are copied, though they could be lent, since the contract says
+// how `out` ends.
 pub fn copy_from(rule: usize, from: usize, out: &mut [u16])
     ensures { out.new ≡ overlaid out.old (drop from (words_in (rule / 50))) }
 {
-    if rule < 50 {
-        let words = WORDS_FROM_0;
-        copy_behind(&words, from, out);
-        return;
-    }
-    if rule < 100 {
-        let words = WORDS_FROM_50;
-        copy_behind(&words, from, out);
-        return;
-    }
-    if rule < 150 {
-        let words = WORDS_FROM_100;
-        copy_behind(&words, from, out);
-        return;
-    }
-    if rule < 200 {
-        let words = WORDS_FROM_150;
-        copy_behind(&words, from, out);
-    }
+    copy_behind(words_in(rule / 50), from, out);
 }

@@ -1,5 +1,5 @@
 -- The reading, one head at a time, as the code does it.
-use mathlib.Core.Path.{◌≡◌, refl, sym, ◌∙◌}
+use mathlib.Core.Path.{◌≡◌, refl, sym, ◌∙◌, ap}
 use mathlib.Core.Logic.{◌≢◌}
 use mathlib.Core.Bool.{Bool, true, false, cond, not, beq}
 use mathlib.Core.List.{List, [], ◌∷◌, ◌++◌}
@@ -9,11 +9,13 @@ use native.Mathlib.Omega.{arith}
 use borrow.Author.Tests.{eq-eqb, ne_eqb, eqb-true, eqb-false, le-leb, lt-leb}
 use lib.Dec.{eqb, leb}
 use lib.ListN.{length, take, drop, get_or, get_or-eq_default}
+use Rattle.term.specs.declared.heads.Class.{Class}
+use Rattle.term.specs.declared.heads.Class.TheVariants.{Nothing, Index, Basis, Scalar, Ket, Bra, Operator, Array, Term}
 use Rattle.term.specs.Heads.{heads, result_of}
 use Rattle.term.specs.Parts.{part}
 use Rattle.term.proofs.Scan.{part-front}
 use Rattle.typebook.specs.Code.Shapes.{number_of}
-use Rattle.typebook.specs.Code.Lines.{rules, rule_at}
+use Rattle.typebook.specs.Code.Lines.{rules, rule_at, turned}
 use Rattle.shapes.specs.Bodies.{bound_in}
 use Rattle.shapes.specs.Reading.{second_of, declared_index, leaf_index, variable_class, child_at, turned_if, class_read, class_at, digit, is_right, side_read, side_at}
 
@@ -40,6 +42,29 @@ some-rule true e h z = h (rw (e, z))
 some-rule false e h z = h (rw (e, z))
 
 -- ---- the class
+pub turned_number : (c : Class) → number_of (turned c) ≡ turned_if true (number_of c)
+unfolding turned_if
+turned_number Nothing = refl
+turned_number Index = refl
+turned_number Basis = refl
+turned_number Scalar = refl
+turned_number Ket = refl
+turned_number Bra = refl
+turned_number Operator = refl
+turned_number Array = refl
+turned_number Term = refl
+
+index-is : (c : Class) → number_of c ≡ 1 → c ≡ Index
+index-is Nothing e = absurd (omega arith)
+index-is Index e = refl
+index-is Basis e = absurd (omega arith)
+index-is Scalar e = absurd (omega arith)
+index-is Ket e = absurd (omega arith)
+index-is Bra e = absurd (omega arith)
+index-is Operator e = absurd (omega arith)
+index-is Array e = absurd (omega arith)
+index-is Term e = absurd (omega arith)
+
 -- turning twice is not turning
 twice : (n : ℕ) → turned_if true (turned_if true n) ≡ n
 unfolding turned_if
@@ -57,39 +82,47 @@ turned-both true false n = refl
 turned-both false true n = refl
 turned-both false false n = refl
 
-pub class-none : (ds ws : List ℕ) (n at : ℕ) (turned : Bool) {goal : ℕ} → n ≡ 0 → turned_if turned (class_at ds ws n at) ≡ goal → 0 ≡ goal
-unfolding class_at turned_if
-class-none ds ws n at true e g = rw e at g
-class-none ds ws n at false e g = rw e at g
-
 class-at : (ds ws : List ℕ) (n at : ℕ) → 0 < n → class_at ds ws n at ≡ class_read ds (get_or ws at 0) λ second. class_at ds ws (n - 1) (child_at ws at second)
 unfolding class_at
 class-at ds ws zero at h = absurd (omega arith)
 class-at ds ws (suc n) at h = let z : suc n - 1 ≡ n = omega arith in rw z
 
--- a turn of the loop: the word at hand, and that its class, turned or not, is the one asked for
-pub record Turning (ds ws : List ℕ) (n at word : ℕ) (turned : Bool) (goal : ℕ) : Type 0 where
-  pub some : 0 < n
-  pub word-is : word ≡ get_or ws at 0
-  pub same : turned_if turned (class_at ds ws n at) ≡ goal
+-- where the loop stands: the class at hand, turned or not, with the budget that is left, is the one asked for
+pub record Turning (ds ws : List ℕ) (budget done at : ℕ) (turned : Bool) (goal : ℕ) : Type 0 where
+  pub same : turned_if turned (class_at ds ws (budget - done) at) ≡ goal
 
-module _ {ds ws : List ℕ} {n at word : ℕ} {turned : Bool} {goal : ℕ} (x : Turning ds ws n at word turned goal) where
-  by_word : turned_if turned (class_read ds word λ second. class_at ds ws (n - 1) (child_at ws at second)) ≡ goal
-  by_word = rw (← x.word-is) at (rw (class-at ds ws n at x.some) at x.same)
+pub class-begun : (ds ws : List ℕ) (budget at : ℕ) → Turning ds ws budget 0 at false (class_at ds ws budget at)
+unfolding turned_if
+class-begun ds ws budget at = let z : budget - 0 ≡ budget = omega arith in record { same = rw z }
 
-  pub class_variable : word / 256 ≡ 26 → {v r : ℕ} → v ≡ variable_class ds (word % 256) → r ≡ turned_if turned v → r ≡ goal
-  unfolding class_read
-  class_variable h e f = rw (f, e) (rw (eq-eqb _ 26 h) at by_word)
+none-left : (ds ws : List ℕ) (n at : ℕ) (turned : Bool) → n ≡ 0 → 0 ≡ turned_if turned (class_at ds ws n at)
+unfolding class_at turned_if
+none-left ds ws n at true e = rw e
+none-left ds ws n at false e = rw e
 
-  module _ (other : word / 256 ≢ 26) {rule : ℕ} (r : rule ≡ rule_at (word / 256)) where
-    pub class_head : rule / 256 % 16 ≡ 0 → {v r : ℕ} → v ≡ number_of (result_of (word / 256)) → r ≡ turned_if turned v → r ≡ goal
+module _ {ds ws : List ℕ} {budget done at : ℕ} {turned : Bool} {goal : ℕ} (x : Turning ds ws budget done at turned goal) where
+  pub class-none : budget ≤ done → 0 ≡ goal
+  class-none h = none-left ds ws (budget - done) at turned (omega arith) ∙ x.same
+
+  module _ (more : done < budget) {word : ℕ} (word-is : word ≡ get_or ws at 0) where
+    by_word : turned_if turned (class_read ds word λ second. class_at ds ws (budget - done - 1) (child_at ws at second)) ≡ goal
+    by_word = rw (← word-is) at (rw (class-at ds ws (budget - done) at (omega arith)) at x.same)
+
+    pub class_variable : word / 256 ≡ 26 → {v r : ℕ} → v ≡ variable_class ds (word % 256) → r ≡ turned_if turned v → r ≡ goal
     unfolding class_read
-    class_head h e f = rw (f, e) (rw (ne_eqb _ 26 other, ← r, eq-eqb _ 0 h) at by_word)
+    class_variable h e f = rw (f, e) (rw (eq-eqb _ 26 h) at by_word)
 
-    pub class-child : rule / 256 % 16 ≢ 0 → {child : ℕ} → child ≡ child_at ws at (eqb (rule / 256 % 16) 2)
-        → turned_if (not (beq turned (eqb (rule / 256 % 16) 3))) (class_at ds ws (n - 1) child) ≡ goal
-    unfolding class_read
-    class-child h e = rw (e, turned-both) (rw (ne_eqb _ 26 other, ← r, ne_eqb _ 0 h) at by_word)
+    module _ (other : word / 256 ≢ 26) {rule : ℕ} (r : rule ≡ rule_at (word / 256)) where
+      pub class_head : rule / 256 % 16 ≡ 0 → {v r : ℕ} → v ≡ number_of (result_of (word / 256)) → r ≡ turned_if turned v → r ≡ goal
+      unfolding class_read
+      class_head h e f = rw (f, e) (rw (ne_eqb _ 26 other, ← r, eq-eqb _ 0 h) at by_word)
+
+      pub class-child : rule / 256 % 16 ≢ 0 → {child : ℕ} → child ≡ child_at ws at (eqb (rule / 256 % 16) 2)
+          → Turning ds ws budget (done + 1) child (not (beq turned (eqb (rule / 256 % 16) 3))) goal
+      unfolding class_read
+      class-child h e =
+          let z : budget - (done + 1) ≡ budget - done - 1 = omega arith in
+          record { same = rw (z, e, turned-both) (rw (ne_eqb _ 26 other, ← r, ne_eqb _ 0 h) at by_word) }
 
 -- ---- the index on a side
 side-none : (ds ws : List ℕ) (outer : ℕ → List ℕ) (right : Bool) (n at : ℕ) → n ≡ 0 → [] ≡ side_at ds ws outer right n at
@@ -114,23 +147,26 @@ within ws n at {word} w h = go (eqb n 0) refl w
     go true e w = absurd (h w)
     go false e w = (eqb-false n 0 e, w)
 
-some-class : {word class : ℕ} → class ≡ number_of (result_of (word / 256)) → class ≡ 1 → word ≢ 0
+some-class : {word : ℕ} {class : Class} → class ≡ result_of (word / 256) → class ≡ Index → word ≢ 0
 unfolding result_of heads
-some-class c h z = let e = rw z at c in omega arith
+some-class c h z = let e : Index ≡ Nothing = sym h ∙ (rw z at c) in absurd cc
 
 some_word : {word rule : ℕ} → rule ≡ rule_at (word / 256) → rule ≢ 0 → word ≢ 0
 unfolding rule_at rules
 some_word r h z = h (rw z at r)
 
 -- ---- by the tests that the code makes, one after the other
--- a word that is read, with its class, and with its rule where it is no index
-pub record Ruled (ws : List ℕ) (right : Bool) (n at word class rule : ℕ) : Type 0 where
+-- a word that is read, with its rule where it is no index
+pub record Ruled (ws : List ℕ) (n at word rule : ℕ) : Type 0 where
   pub word-is : word ≡ cond (eqb n 0) 0 (get_or ws at 0)
-  pub class-is : class ≡ number_of (result_of (word / 256))
-  pub no_index : class ≢ 1
+  pub no_index : number_of (result_of (word / 256)) ≢ 1
   pub rule-is : rule ≡ rule_at (word / 256)
 
-module _ {ws : List ℕ} {right : Bool} {n at word class rule : ℕ} (x : Ruled ws right n at word class rule) where
+pub ruled : (ws : List ℕ) (n at : ℕ) {word rule : ℕ} {class : Class} → word ≡ cond (eqb n 0) 0 (get_or ws at 0) → class ≡ result_of (word / 256) → class ≢ Index → rule ≡ rule_at (word / 256)
+    → Ruled ws n at word rule
+ruled ws n at w c h r = record { word-is = w; no_index = λ z. h (c ∙ index-is _ z); rule-is = r }
+
+module _ {ws : List ℕ} {n at word rule : ℕ} (x : Ruled ws n at word rule) where
   ruled_word : rule ≢ 0 → (n ≢ 0) × (word ≡ get_or ws at 0)
   ruled_word h = within ws n at x.word-is (some_word x.rule-is h)
 
@@ -140,8 +176,8 @@ module _ {ws : List ℕ} {right : Bool} {n at word class rule : ℕ} (x : Ruled 
   pub product_inside : 4 ≤ rule / 4096 → (n ≢ 0) × (at < length ws)
   product_inside h = inside (λ z. omega arith)
 
-  pub child-inside : {k : ℕ} → k ≡ digit right rule → k ≢ 0 → (n ≢ 0) × (at < length ws)
-  child-inside e h = inside (some-rule right e h)
+  pub child-inside : (right : Bool) {k : ℕ} → k ≡ digit right rule → k ≢ 0 → (n ≢ 0) × (at < length ws)
+  child-inside right e h = inside (some-rule right e h)
 
 module _ (ds ws : List ℕ) (outer : ℕ → List ℕ) (right : Bool) (n at : ℕ) where
   abbrev Sides : List ℕ → Type 0
@@ -151,13 +187,13 @@ module _ (ds ws : List ℕ) (outer : ℕ → List ℕ) (right : Bool) (n at : �
       → Sides (side_read word (part ws at) (leaf_index ds ws outer right at word) right λ r second. side_at ds ws outer r (n - 1) (child_at ws at second))
   word-side x = rw (side-at ds ws outer right n at x.0, x.1)
 
-  pub side_index : {word class : ℕ} → word ≡ cond (eqb n 0) 0 (get_or ws at 0) → class ≡ number_of (result_of (word / 256)) → class ≡ 1 → Sides (part ws at)
+  pub side_index : {word : ℕ} {class : Class} → word ≡ cond (eqb n 0) 0 (get_or ws at 0) → class ≡ result_of (word / 256) → class ≡ Index → Sides (part ws at)
   unfolding side_read
-  side_index w c h = rw (eq-eqb _ 1 (sym c ∙ h)) at (word-side (within ws n at w (some-class c h)))
+  side_index w c h = let one = ap number_of (sym c ∙ h) in rw (eq-eqb _ 1 one) at (word-side (within ws n at w (some-class c h)))
 
-  module _ {word class rule : ℕ} (x : Ruled ws right n at word class rule) where
+  module _ {word rule : ℕ} (x : Ruled ws n at word rule) where
     other : eqb (number_of (result_of (word / 256))) 1 ≡ false
-    other = ne_eqb _ 1 (λ z. x.no_index (x.class-is ∙ z))
+    other = ne_eqb _ 1 x.no_index
 
     pub side-product : 4 ≤ rule / 4096 → {second : ℕ} → second ≡ child_at ws at true → Sides (512 ∷ (side_at ds ws outer right (n - 1) (at + 1) ++ side_at ds ws outer right (n - 1) second))
     unfolding side_read child_at

@@ -1,12 +1,11 @@
 -- Where a bound basis is bound. 02, CR 1: "the basis bound by the a-th 27 whose body holds it, the innermost being 0".
-use Rattle.std.specs.Prelude.{◌≡◌, true, false, cond, ◌&&◌, List, [], ℕ, zero, suc, ◌+◌, ◌-◌, eqb, ltb, get_or}
+use Rattle.std.specs.Prelude.{◌≡◌, cond, ◌&&◌, List, [], ℕ, zero, suc, ◌+◌, ◌-◌, eqb, ltb, get_or, Result, Ok, Err}
 use Rattle.std.proofs.Math.Option.{some}
 use Rattle.std.proofs.Math.ListN.{get_elem?}
 use Rattle.term.specs.Heads.{Reading, unread, labelled, read}
 use Rattle.term.specs.Trees.{Tree, words, Formed}
 use Rattle.term.specs.Parts.{part}
 use Rattle.types.specs.Inside.{binds}
-use Rattle.shapes.specs.declared.Walked as W
 
 -- what the walk back comes to: the offset of the 27 that it looks for, or the front of the words, with so many more to be passed
 pub data Walk : Type 0 where
@@ -28,9 +27,9 @@ back ws zero parts left = outside left
 back ws (suc i) parts left = step_back (read (get_or ws i 0)) i parts left λ p n. back ws i p n
 
 -- as the code says it
-unfoldable pub walked : Walk → W.Walked
-walked (found i) = record { found = true; at = i }
-walked (outside n) = record { found = false; at = n }
+unfoldable pub walked : Walk → Result ℕ ℕ
+walked (found i) = Ok i
+walked (outside n) = Err n
 
 -- the index of a sum stands behind its 27; where the walk comes to the front of the words, `outer` tells it
 unfoldable pub index_by : List ℕ → (ℕ → List ℕ) → Walk → List ℕ

@@ -2,6 +2,8 @@
 -- of a part that has a type: `Statements` says what.
 use Rattle.std.specs.Prelude.{◌≡◌, ◌≢◌, Bool, true, false, cond, List, [], ◌∷◌, ◌++◌, ℕ, zero, suc, ◌+◌, ◌*◌, ◌/◌, ◌%◌, ◌≤◌, eqb, leb, length, get_or, take, drop}
 use Rattle.term.specs.Heads.{result_of}
+use Rattle.term.specs.declared.parts.Side.{Side}
+use Rattle.term.specs.declared.parts.Side.TheVariants.{Left, Right}
 use Rattle.term.specs.Trees.{Tree, words, Formed, depth}
 use Rattle.term.specs.Parts.{part}
 use Rattle.types.specs.Sorts.{Sort}
@@ -57,6 +59,11 @@ class_read ds w child =
 unfoldable pub class_at : List ℕ → List ℕ → ℕ → ℕ → ℕ
 class_at ds ws zero at = 0
 class_at ds ws (suc n) at = class_read ds (get_or ws at 0) λ second. class_at ds ws n (child_at ws at second)
+
+-- a side as a test of whether it is the right one
+abbrev pub at_right : Side → Bool
+at_right Left = false
+at_right Right = true
 
 -- the digit of the left index, or of the right
 abbrev pub digit : Bool → ℕ → ℕ

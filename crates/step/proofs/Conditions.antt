@@ -1,15 +1,15 @@
 -- The condition of a rule, by its number: of what kind the part in hole 0 is, as it is read off it, or that the part in hole 1 has no such word.
 use mathlib.Core.Path.{◌≡◌, refl, sym, ◌∙◌, ap}
 use mathlib.Core.Logic.{◌≢◌, ◌⊎◌, ⊎_elim}
-use mathlib.Core.Bool.{true, false}
+use mathlib.Core.Bool.{Bool, true, false, not, ◌&&◌, ◌||◌}
+use Rattle.std.specs.List.{list_any}
 use mathlib.Core.List.{List, [], ◌∷◌}
 use Prim.Native.Nat.{ℕ, suc, ◌+◌, ◌-◌, ◌/◌, ◌%◌, ◌≤◌, ◌<◌}
-use native.Mathlib.Numerals.{add-one}
 use native.Mathlib.Omega.{arith}
-use borrow.Author.Tests.{ltb-true, eq-eqb, ne_eqb}
+use borrow.Author.Tests.{ltb-true, ne_eqb}
 use lib.Dec.{eqb}
-use lib.ListN.{length, take, drop, get_or, drop_of_length-le}
-use lib.Seq.{drop-cons, get_or-drop}
+use lib.ListN.{length, take, drop, get_or}
+use lib.Seq.{get_or-drop}
 use Rattle.words.specs.Listed.{lacks}
 use Rattle.words.proofs.Listed.{up_to_mark}
 use Rattle.term.specs.Heads.{Label, variable, heads, labelled, reading, read, word}
@@ -96,19 +96,15 @@ pub any_met : (Γ : Context) (k : Condition) (θ : ℕ → Tree) → condition_n
 unfolding satisfied condition_at
 any_met Γ k θ e = rw (numbered k e)
 
--- ---- the words of a part, one after the other
-module _ (w : ℕ) (ws : List ℕ) (k : ℕ) where
-  pub lacks_here : k < length ws → get_or ws k 0 ≡ w → lacks w (drop k ws) ≡ false
-  unfolding lacks
-  lacks_here h e = rw (drop-cons ws k 0 h, eq-eqb (get_or ws k 0) w e)
-
-  pub lacks-more : k < length ws → get_or ws k 0 ≢ w → lacks w (drop k ws) ≡ lacks w (drop (k + 1) ws)
-  unfolding lacks
-  lacks-more h n = rw (drop-cons ws k 0 h, ne_eqb (get_or ws k 0) w n, add-one)
-
-  pub lacks-end : length ws ≤ k → lacks w (drop k ws) ≡ true
-  unfolding lacks
-  lacks-end h = rw (drop_of_length-le ws h)
+-- ---- a word that is none of a row's
+pub lacks_lem : (w : ℕ) (ws : List ℕ) → not (list_any (λ y. eqb y w) ws) ≡ lacks w ws
+unfolding lacks
+lacks_lem w [] = refl
+lacks_lem w (v ∷ ws) = by_test (eqb v w) (lacks_lem w ws)
+  where
+    by_test : (b : Bool) → not (list_any (λ y. eqb y w) ws) ≡ lacks w ws → not (b || list_any (λ y. eqb y w) ws) ≡ not b && lacks w ws
+    by_test true e = refl
+    by_test false e = e
 
 -- the part in hole 1 has no such word
 pub own_asks : (k : Condition) (n : ℕ) → condition_number k ≡ 4 → asked k n ≡ true → 1 < n

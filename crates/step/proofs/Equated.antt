@@ -1,7 +1,7 @@
 -- An equation at a part: from the match of its left side to the words of its right side.
 use mathlib.Core.Path.{◌≡◌, refl, sym, ◌∙◌}
 use mathlib.Core.Logic.{◌≢◌, ◌⊎◌, inl, inr, ⊎_elim}
-use mathlib.Core.Bool.{Bool, true, false, ◌&&◌, ◌||◌, true≢false}
+use mathlib.Core.Bool.{Bool, true, false, ◌&&◌, ◌||◌}
 use mathlib.Core.List.{List, [], ◌∷◌, ◌++◌}
 use mathlib.Core.Option.{Option, some, none}
 use Prim.Native.Nat.{ℕ, ◌+◌, ◌-◌, ◌*◌, ◌/◌, ◌≤◌}
@@ -37,6 +37,8 @@ use Rattle.rulebook.proofs.Rows.{sizes, kind_at}
 use Rattle.rulebook.proofs.Made.{head_word, made, head_plain, every_made}
 use Rattle.rulebook.proofs.Copied.{sides-short, left_copied, right_copied}
 use Rattle.matcher.specs.declared.Match.{Match}
+use Rattle.matcher.specs.declared.Miss.{Miss}
+use Rattle.std.specs.Prelude.{Result, Ok, Err}
 use Rattle.matcher.specs.Matching.{Holds, Found, holds, stops, match_of}
 use Rattle.matcher.proofs.Theorems.{matches}
 use Rattle.step.specs.Code.Building.{chosen_index, all_ask, indexless, Caught, AllSorted}
@@ -92,9 +94,9 @@ module _ {n : ℕ} {row : Row} (e : Equation n row) where
   condition-is = rw e.is (kind_at n e.rule)
 
 -- ---- what a match found, as trees
-none_by : {ws : List ℕ} {n : ℕ} {m : Match} {o : Option (List Tree)} → Found ws n m o → m.whole ≡ false → o ≡ none
-none_by (holds h at) w = absurd (true≢false (sym h.whole ∙ w))
-none_by (stops z) w = refl
+none_by : {ws : List ℕ} {n : ℕ} {x : Result Match Miss} {o : Option (List Tree)} {q : Miss} → Found ws n x o → Err q ≡ x → o ≡ none
+none_by (holds h at) e = absurd cc
+none_by (stops z) e = refl
 
 module _ (n : ℕ) {k : Condition} {l r : Pattern} (rule : rule_of n ≡ some (k ⇒ l ▷ r)) {ds term : List ℕ} {place : ℕ} {ws : List ℕ} (s : Site ds term place ws) where
   abbrev Γ : Context
@@ -118,10 +120,11 @@ module _ (n : ℕ) {k : Condition} {l r : Pattern} (rule : rule_of n ≡ some (k
   abbrev pub held : {m : Match} → Caughts m → Caught ds ws m
   held x = caught s x.holds-all x.ends x.formed
 
-  caughts_by : {m : Match} {o : Option (List Tree)} → match l s.tree [] ≡ o → Found ws (length (words s.tree)) m o → m.whole ≡ true → Caughts m
-  caughts_by e (holds {c} h at) w =
+  caughts_by : {m : Match} {x : Result Match Miss} {o : Option (List Tree)} → match l s.tree [] ≡ o → Found ws (length (words s.tree)) x o → Ok m ≡ x → Caughts m
+  caughts_by {m = m} e (holds {m = q} {c} h at) w =
       let x = matched Γ l s.tree [] c fines.order none-formed s.formed e in
-      record {
+      let z : m ≡ q = cc in
+      rw z (record {
         trees = c;
         matches = e;
         formed = x.formed;
@@ -129,19 +132,18 @@ module _ (n : ℕ) {k : Condition} {l r : Pattern} (rule : rule_of n ≡ some (k
         many = h.many ∙ x.many;
         holds-all = h;
         ends = at;
-      }
-  caughts_by e (stops z) w = absurd (true≢false (sym w ∙ z))
+      })
+  caughts_by e (stops q) w = absurd cc
 
   -- the words of the left side were walked
-  module _ {m : Match} (walked : m ≡ match_of (pattern_words l) ws) where
-    found : Found ws (length (words s.tree)) m (match l s.tree [])
-    found = rw (walked, s.whole) (matches n k l r rule s.tree s.after s.formed)
+  found : Found ws (length (words s.tree)) (match_of (pattern_words l) ws) (match l s.tree [])
+  found = rw s.whole (matches n k l r rule s.tree s.after s.formed)
 
-    pub found_in : m.whole ≡ true → Caughts m
-    found_in = caughts_by refl found
+  pub found_in : {m : Match} → Ok m ≡ match_of (pattern_words l) ws → Caughts m
+  found_in e = caughts_by refl found e
 
-    pub found_none : m.whole ≡ false → match l s.tree [] ≡ none
-    found_none w = none_by found w
+  pub found_none : {q : Miss} → Err q ≡ match_of (pattern_words l) ws → match l s.tree [] ≡ none
+  found_none e = none_by found e
 
   -- the right side asks for holes of the left side, and so does the condition
   pub right-asks : {m : Match} → Caughts m → all_ask m.held (pattern_words r) ≡ true

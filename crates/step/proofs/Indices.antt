@@ -1,12 +1,13 @@
 -- The indices of a part's type: they are short, and which side of the part each is.
-use mathlib.Core.Path.{◌≡◌, refl, ◌∙◌}
-use mathlib.Core.Logic.{◌≢◌}
+use mathlib.Core.Path.{◌≡◌, refl, ◌∙◌, ap}
+use mathlib.Core.Logic.{◌≢◌, ◌⊎◌, inl, inr, ⊎_elim}
 use mathlib.Core.Bool.{Bool, true, false}
 use mathlib.Core.List.{List, [], ◌∷◌}
-use Prim.Native.Nat.{ℕ, ◌≤◌, ◌<◌}
+use Prim.Native.Nat.{ℕ, ◌≤◌}
 use native.Mathlib.Omega.{arith}
-use lib.Dec.{eqb}
 use lib.ListN.{length}
+use Rattle.term.specs.declared.heads.Class.{Class}
+use Rattle.term.specs.declared.heads.Class.TheVariants.{Nothing, Index, Basis, Scalar, Ket, Bra, Operator, Array, Term}
 use Rattle.term.specs.Heads.{word}
 use Rattle.term.specs.Terms.{max_depth, max_index}
 use Rattle.term.specs.Trees.{Tree, words}
@@ -52,6 +53,40 @@ module _ {Γ : Context} (W : WellFormed Γ) where
   chosen-short b t (typed S) e = sort-short b S (proper W (sound W 0 t e))
   chosen-short b t (untyped k) e = sort-short b scalar tt
 
+-- ---- a class by its number
+ket-is : (c : Class) → number_of c ≡ 4 → c ≡ Ket
+ket-is Nothing e = absurd (omega arith)
+ket-is Index e = absurd (omega arith)
+ket-is Basis e = absurd (omega arith)
+ket-is Scalar e = absurd (omega arith)
+ket-is Ket e = refl
+ket-is Bra e = absurd (omega arith)
+ket-is Operator e = absurd (omega arith)
+ket-is Array e = absurd (omega arith)
+ket-is Term e = absurd (omega arith)
+
+bra-is : (c : Class) → number_of c ≡ 5 → c ≡ Bra
+bra-is Nothing e = absurd (omega arith)
+bra-is Index e = absurd (omega arith)
+bra-is Basis e = absurd (omega arith)
+bra-is Scalar e = absurd (omega arith)
+bra-is Ket e = absurd (omega arith)
+bra-is Bra e = refl
+bra-is Operator e = absurd (omega arith)
+bra-is Array e = absurd (omega arith)
+bra-is Term e = absurd (omega arith)
+
+operator-is : (c : Class) → number_of c ≡ 6 → c ≡ Operator
+operator-is Nothing e = absurd (omega arith)
+operator-is Index e = absurd (omega arith)
+operator-is Basis e = absurd (omega arith)
+operator-is Scalar e = absurd (omega arith)
+operator-is Ket e = absurd (omega arith)
+operator-is Bra e = absurd (omega arith)
+operator-is Operator e = refl
+operator-is Array e = absurd (omega arith)
+operator-is Term e = absurd (omega arith)
+
 -- ---- the code's choice, by the number of the class that was read off: the index is on a side, or there is none
 module _ (n : ℕ) where
   second-there : (S : Sort) → n ≡ number_of (shape_of S).class → n ≡ 6 → side_in true (shape_of S) ≡ words (second_index S)
@@ -71,22 +106,30 @@ module _ (n : ℕ) where
   second_missing (bra σ) e h = refl
   second_missing (operator σ τ) e h = absurd (h e)
 
-  first-there : (S : Sort) → n ≡ number_of (shape_of S).class → 4 ≤ n → side_in (eqb n 5) (shape_of S) ≡ words (first_index S)
-  first-there (index σ) e h = absurd (omega arith)
-  first-there (basis σ) e h = absurd (omega arith)
-  first-there scalar e h = absurd (omega arith)
-  first-there (ket σ) e h = rw e
-  first-there (bra σ) e h = rw e
-  first-there (operator σ τ) e h = rw e
+  rows-there : (S : Sort) → n ≡ number_of (shape_of S).class → (n ≡ 4) ⊎ (n ≡ 6) → side_in false (shape_of S) ≡ words (first_index S)
+  rows-there (index σ) e h = absurd (omega arith)
+  rows-there (basis σ) e h = absurd (omega arith)
+  rows-there scalar e h = absurd (omega arith)
+  rows-there (ket σ) e h = refl
+  rows-there (bra σ) e h = absurd (omega arith)
+  rows-there (operator σ τ) e h = refl
 
-  first_missing : (S : Sort) → n ≡ number_of (shape_of S).class → n < 4 → 1280 ∷ [] ≡ words (first_index S)
+  columns-there : (S : Sort) → n ≡ number_of (shape_of S).class → n ≡ 5 → side_in true (shape_of S) ≡ words (first_index S)
+  columns-there (index σ) e h = absurd (omega arith)
+  columns-there (basis σ) e h = absurd (omega arith)
+  columns-there scalar e h = absurd (omega arith)
+  columns-there (ket σ) e h = absurd (omega arith)
+  columns-there (bra σ) e h = refl
+  columns-there (operator σ τ) e h = absurd (omega arith)
+
+  first_missing : (S : Sort) → n ≡ number_of (shape_of S).class → n ≢ 4 → n ≢ 5 → n ≢ 6 → 1280 ∷ [] ≡ words (first_index S)
   unfolding words word
-  first_missing (index σ) e h = refl
-  first_missing (basis σ) e h = refl
-  first_missing scalar e h = refl
-  first_missing (ket σ) e h = absurd (omega arith)
-  first_missing (bra σ) e h = absurd (omega arith)
-  first_missing (operator σ τ) e h = absurd (omega arith)
+  first_missing (index σ) e h i j = refl
+  first_missing (basis σ) e h i j = refl
+  first_missing scalar e h i j = refl
+  first_missing (ket σ) e h i j = absurd (h e)
+  first_missing (bra σ) e h i j = absurd (i e)
+  first_missing (operator σ τ) e h i j = absurd (j e)
 
 -- ---- what is read off a typed part at the front of the words
 module _ (ds : List ℕ) (bodies : List Tree) (outer : ℕ → List ℕ) (ws : List ℕ) (h : HasSort ds bodies outer ws) where
@@ -107,16 +150,23 @@ module _ (ds : List ℕ) (bodies : List Tree) (outer : ℕ → List ℕ) (ws : L
     pub class-is : n ≡ number_of (shape_of sort).class
     class-is = class ∙ reading.class
 
-    module _ (second : Bool) (is : second ≡ true) where
-      pub second-read : n ≡ 6 → side_at ds ws outer true max_depth 0 ≡ index_of second
-      second-read e = index_is true second is (index_read reading true (second_index sort) (second-there n sort class-is e))
+  module _ (c : Class) (class : number_of c ≡ class_at ds ws max_depth 0) where
+    is : number_of c ≡ number_of (shape_of sort).class
+    is = class-is (number_of c) class
 
-      pub no_second : n ≢ 6 → 1280 ∷ [] ≡ index_of second
-      no_second e = index_is true second is (second_missing n sort class-is e)
+    module _ (second : Bool) (b : second ≡ true) where
+      pub second-read : c ≡ Operator → side_at ds ws outer true max_depth 0 ≡ index_of second
+      second-read e = index_is true second b (index_read reading true (second_index sort) (second-there (number_of c) sort is (ap number_of e)))
 
-    module _ (second : Bool) (is : second ≡ false) where
-      pub first_read : 4 ≤ n → side_at ds ws outer (eqb n 5) max_depth 0 ≡ index_of second
-      first_read e = index_is false second is (index_read reading (eqb n 5) (first_index sort) (first-there n sort class-is e))
+      pub no_second : c ≢ Operator → 1280 ∷ [] ≡ index_of second
+      no_second e = index_is true second b (second_missing (number_of c) sort is (λ z. e (operator-is c z)))
 
-      pub no_first : n < 4 → 1280 ∷ [] ≡ index_of second
-      no_first e = index_is false second is (first_missing n sort class-is e)
+    module _ (second : Bool) (b : second ≡ false) where
+      pub rows_read : (c ≡ Ket) ⊎ (c ≡ Operator) → side_at ds ws outer false max_depth 0 ≡ index_of second
+      rows_read e = index_is false second b (index_read reading false (first_index sort) (rows-there (number_of c) sort is (⊎_elim (λ k. inl (ap number_of k)) (λ o. inr (ap number_of o)) e)))
+
+      pub columns_read : c ≡ Bra → side_at ds ws outer true max_depth 0 ≡ index_of second
+      columns_read e = index_is false second b (index_read reading true (first_index sort) (columns-there (number_of c) sort is (ap number_of e)))
+
+      pub no_first : c ≢ Ket → c ≢ Bra → c ≢ Operator → 1280 ∷ [] ≡ index_of second
+      no_first h i j = index_is false second b (first_missing (number_of c) sort is (λ z. h (ket-is c z)) (λ z. i (bra-is c z)) (λ z. j (operator-is c z)))

@@ -19,7 +19,9 @@ use Rattle.term.proofs.Places.{place, subtree-inside, subtree-formed, replace-fo
 use Rattle.rules.specs.Steps.{few, few*, within, limited}
 use Rattle.rules.proofs.Formed.{formed-few}
 use Rattle.families.specs.declared.writing.Replaced.{Replaced}
-use Rattle.families.specs.declared.writing.Rewritten.{Rewritten}
+use Rattle.families.specs.declared.writing.Refusal.{Refusal}
+use Rattle.families.specs.declared.writing.Refusal.TheVariants.{TooBig}
+use Rattle.std.specs.Prelude.{Option as Found, Some, None, Result, Ok, Err}
 use Rattle.step.specs.Code.Making.{Seated, Fresh, Made}
 
 -- ---- few children at each node: of the whole where they are few in the new part
@@ -105,7 +107,7 @@ unfolding part_depth part
 part-shallow ws = omega (arith, first-few (parse (drop 0 ws)), part_length ws 0)
 
 -- ---- a part in its place
-module _ {term : List ℕ} {at : ℕ} {deepens : Bool} {old : ℕ} {new : List ℕ} (f : Seated term at deepens old new) where
+module _ {term : List ℕ} {at : ℕ} {old : Found ℕ} {new : List ℕ} (f : Seated term at old new) where
   seat_inside : at < length (words f.tree)
   seat_inside = subtree-inside f.tree at f.part f.there
 
@@ -128,10 +130,10 @@ module _ {term : List ℕ} {at : ℕ} {deepens : Bool} {old : ℕ} {new : List �
       let d = ap depth same_replaced in
       omega (arith, level-replace f.tree at f.part seat_inside, f.shallow, seat_level)
 
-  pub seat_fits : deepens ≡ true → level_at term at + old ≤ max_depth
-  seat_fits e = rw (f.was e) part-fits
+  pub seat_fits : {d : ℕ} → old ≡ Some d → level_at term at + d ≤ max_depth
+  seat_fits {d} e = rw (f.was d e) part-fits
 
-  pub seat_flat : deepens ≡ false → level_at term at + part_depth new 0 ≤ max_depth
+  pub seat_flat : old ≡ None → level_at term at + part_depth new 0 ≤ max_depth
   seat_flat e = omega (arith, f.flat e, part-fits)
 
 -- ---- a fresh part in its term
@@ -169,11 +171,11 @@ module _ {term : List ℕ} {at : ℕ} {made : Replaced} {out : List ℕ} (f : Fr
   whole-few = few-replace f.tree at f.result (formed-few f.tree f.formed) (formed-few f.result f.result_formed)
 
   -- the depth of the words that were written, and the level of the place
-  pub result-depth : length (words f.result) ≤ max_words → part_depth (take made.written.end out) 0 ≡ depth f.result
+  pub result-depth : length (words f.result) ≤ max_words → part_depth (take made.end out) 0 ≡ depth f.result
   unfolding part_depth first_depth
   result-depth h = rw (f.written h, parse-tree f.result f.result_formed)
 
-  pub seated : length (words f.result) ≤ max_words → Seated term at made.deepens made.depth (take made.written.end out)
+  pub seated : length (words f.result) ≤ max_words → Seated term at made.depth (take made.end out)
   seated h =
       record {
         tree = f.tree;
@@ -190,29 +192,28 @@ module _ {term : List ℕ} {at : ℕ} {made : Replaced} {out : List ℕ} (f : Fr
   place-level = rw (← f.is) (level-words f.tree at f.formed inside)
 
   -- ---- the four ends
-  abbrev MadeIn : List ℕ → Rewritten → Type 0
+  abbrev MadeIn : List ℕ → Result ℕ Refusal → Type 0
   MadeIn = Made f.tree (limited f.tree whole) at
 
-  refused_made : (out' : List ℕ) → limited f.tree whole ≡ record { code = 23; tree = f.tree } → length out' ≡ max_words → MadeIn out' (record { code = 23; end = 0 })
-  refused_made out' e s =
-      rw e (record { size = s; code = refl; fits = λ z. absurd (omega (arith, z)); words_are = λ z. absurd (omega (arith, z)); stays = λ z. refl })
+  refused_made : (out' : List ℕ) → limited f.tree whole ≡ record { code = 23; tree = f.tree } → length out' ≡ max_words → MadeIn out' (Err TooBig)
+  refused_made out' e s = rw e (record { size = s; code = refl; fits = tt; words_are = tt; stays = refl })
 
-  pub made_long : (out' : List ℕ) → max_words < made.written.end → length out' ≡ max_words → MadeIn out' (record { code = 23; end = 0 })
+  pub made_long : (out' : List ℕ) → max_words < made.end → length out' ≡ max_words → MadeIn out' (Err TooBig)
   made_long out' h = refused_made out' (too_long f.tree whole (omega (arith, whole_length, f.new_end)))
 
-  pub made_behind : (out' : List ℕ) → max_words < at + (length (words f.result) + (length term - end)) → length out' ≡ max_words → MadeIn out' (record { code = 23; end = 0 })
+  pub made_behind : (out' : List ℕ) → max_words < at + (length (words f.result) + (length term - end)) → length out' ≡ max_words → MadeIn out' (Err TooBig)
   made_behind out' h = refused_made out' (too_long f.tree whole (rw whole_length h))
 
-  pub made_deep : (out' : List ℕ) → max_depth < level f.tree at + depth f.result → length out' ≡ max_words → MadeIn out' (record { code = 23; end = 0 })
+  pub made_deep : (out' : List ℕ) → max_depth < level f.tree at + depth f.result → length out' ≡ max_words → MadeIn out' (Err TooBig)
   made_deep out' h = refused_made out' (too_deep f.tree whole (omega (arith, level-replace f.tree at f.result inside)))
 
   pub made_good : {out' : List ℕ} {e : ℕ} → length (words f.result) ≤ max_words → level f.tree at + depth f.result ≤ max_depth
-      → at + (length (words f.result) + (length term - end)) ≤ max_words → Added out made.written.end (drop end term) out' e → MadeIn out' (record { code = 0; end = e })
+      → at + (length (words f.result) + (length term - end)) ≤ max_words → Added out made.end (drop end term) out' e → MadeIn out' (Ok e)
   made_good {out'} {e} short shallow fits a =
       let d = length-drop end term in
-      let n : made.written.end ≡ length (words f.result) = omega (arith, f.new_end) in
-      let l : e ≡ made.written.end + length (drop end term) = omega (arith, a.end, f.size, end-inside) in
+      let n : made.end ≡ length (words f.result) = omega (arith, f.new_end) in
+      let l : e ≡ made.end + length (drop end term) = omega (arith, a.end, f.size, end-inside) in
       let w : take e out' ≡ words f.result ++ drop end term = rw l (a.front (omega (arith, f.size, end-inside)) ∙ rw (f.written short)) in
       let u : words whole ≡ take at (words f.tree) ++ (words f.result ++ drop end (words f.tree)) = rw f.ends (words-replace f.tree at f.part f.result f.there) in
       rw (in_limits f.tree whole whole-few (rw whole_length fits) (omega (arith, depth-replace f.tree at f.result, f.shallow)))
-      (record { size = a.size ∙ f.size; code = refl; fits = λ z. omega (arith, l, n, d, end-inside); words_are = λ z. u ∙ rw (w, f.is); stays = λ z. absurd (z refl) })
+      (record { size = a.size ∙ f.size; code = refl; fits = omega (arith, l, n, d, end-inside); words_are = u ∙ rw (w, f.is); stays = tt })

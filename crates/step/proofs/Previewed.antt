@@ -1,7 +1,9 @@
 -- The preview: what it answers is what taking the step on a copy answers, and what typing then tells of the copy.
 use mathlib.Core.Path.{◌≡◌, refl, sym, ◌∙◌, ap}
 use mathlib.Core.Logic.{◌≢◌}
-use mathlib.Core.Bool.{true}
+use mathlib.Core.Bool.{true, cond}
+use borrow.Author.Tests.{ne_eqb}
+use lib.Dec.{eqb}
 use mathlib.Core.List.{List, [], ◌++◌}
 use Prim.Native.Nat.{ℕ, ◌+◌, ◌≤◌, min}
 use native.Mathlib.Omega.{arith}
@@ -25,21 +27,22 @@ use Rattle.typing.specs.Answers as Said
 use Rattle.typing.proofs.Theorems.{complete_entry, sound_entry, decided}
 use Rattle.lent.proofs.Judging.{type-told}
 use Rattle.lent.specs.declared.steps.Step.{Step}
-use Rattle.families.specs.declared.writing.Rewritten.{Rewritten}
+use Rattle.families.specs.declared.writing.Refusal.{Refusal}
+use Rattle.std.specs.Prelude.{Ok, Err}
 use Rattle.lent.specs.Lent.{asked}
 use Rattle.rules.specs.Steps as R
 use Rattle.rules.specs.Table.{rule_of}
 use Rattle.rules.specs.Outcomes.{Outcome, good, no_rule, no_place, no_instance, too_big}
-use Rattle.families.specs.Writing.{keeps_depth}
+use Rattle.families.specs.Writing.{code_of, keeps_depth}
 use Rattle.families.proofs.Depths.{same-depth}
 use Rattle.rules.proofs.Steps.{step-keeps-type}
 use Rattle.step.specs.Answers.{step_in, stepped, answer_to, words_left}
-use Rattle.step.specs.Code.Making.{Made, shown}
+use Rattle.step.specs.Code.Making.{Made}
 use Rattle.step.specs.Previews.{typing_after, preview_of}
 use Rattle.step.specs.Statements.{Previews}
 use Rattle.step.proofs.Held.{its_step, its_type, held-typed}
 use Rattle.step.proofs.Theorems.{entry, refusals}
-use Rattle.step.proofs.Taking.{tree, is-typed, outcome, stays, refused-length, all_words, new-length}
+use Rattle.step.proofs.Taking.{tree, is-typed, some_code, outcome, stays, refused_code, refused-length, all_words, new-length}
 
 -- ---- no words are no term
 abbrev Bare : Typing → Type 0
@@ -93,14 +96,25 @@ type-alike n d m e (ket σ) = refl
 type-alike n d m e (bra σ) = refl
 type-alike n d m e (operator σ τ) = refl
 
+type-side : (n d : ℕ) (S : Sort) → (answer_of n d (typed S)).side ≡ 0
+unfolding answer_of refuse typing
+type-side n d (index σ) = refl
+type-side n d (basis σ) = refl
+type-side n d scalar = refl
+type-side n d (ket σ) = refl
+type-side n d (bra σ) = refl
+type-side n d (operator σ τ) = refl
+
 -- the depth of a tree is that of its words
 words-depth : (t : Tree) → Formed t → part_depth (words t) 0 ≡ depth t
 unfolding part_depth first_depth
 words-depth t f = rw (parse-tree t f)
 
 module _ {ds ws : List ℕ} {n : ℕ} {t : Tree} {S : Sort} (h : TypedTerm ds ws n t S) where
-  typed-depth : (typing_of ds ws n).depth ≡ depth t
-  typed-depth = rw (complete_entry _ _ _ _ _ h) (type-told _ _ S h.is_type).3
+  pub typed-told : let a = typing_of ds ws n in (a.code ≡ 0) × (a.side ≡ 0) × (a.at ≡ 0) × (a.length ≡ n) × (a.depth ≡ depth t)
+  typed-told =
+      let told = type-told n (depth t) S h.is_type in
+      rw (complete_entry _ _ _ _ _ h) (told.0, type-side n (depth t) S, told.1, told.2, told.3)
 
   module _ (s : Step) where
     abbrev left : R.Stepped
@@ -124,12 +138,13 @@ module _ {ds ws : List ℕ} {n : ℕ} {t : Tree} {S : Sort} (h : TypedTerm ds ws
     same-type = rw (after_is, complete_entry _ _ _ _ _ h) (type-alike _ _ _ _ S)
 
     -- the preview is known by the code, the length and the depth of what is left
-    preview_of_lem : {code long deep : ℕ} {of : TermType} → code ≡ left.code → long ≡ length (words left.tree) → deep ≡ depth left.tree → of ≡ (typing_of ds ws n).of
-        → shown code s.place long deep of ≡ preview_of ds ws n s
-    unfolding preview_of shown stepped
-    preview_of_lem c l d o =
+    preview_of_lem : {code side at long deep : ℕ} {of : TermType} → code ≡ left.code → side ≡ 0 → at ≡ cond (eqb code 0) 0 s.place → long ≡ length (words left.tree)
+        → deep ≡ depth left.tree → of ≡ (typing_of ds ws n).of
+        → record { code = code; side = side; step = 1; at = at; length = long; depth = deep; of = of } ≡ preview_of ds ws n s
+    unfolding preview_of stepped
+    preview_of_lem c z a l d o =
         let e = entry ds ws n t S h s in
-        rw (same-type, after_is, (type-told (length (words left.tree)) (depth left.tree) S h.is_type).3, e.answer, c, l, d, o, its_step h s)
+        rw (same-type, after_is, (type-told (length (words left.tree)) (depth left.tree) S h.is_type).3, e.answer, z, a, c, l, d, o, its_step h s)
 
 -- ---- an exchange leaves the term as deep as it was
 kept-depth : {Γ : Context} {t u : Tree} {s : R.Step} {c : ℕ} → Outcome Γ t s c u → c ≡ 0 → keeps_depth (rule_of s.rule) ≡ true → depth u ≡ depth t
@@ -140,27 +155,38 @@ kept-depth (no_instance e f x) z q = absurd (omega arith)
 kept-depth (too_big e f x g) z q = absurd (omega arith)
 
 -- ---- and the words from its place on, made apart
-module _ (ds ws : List ℕ) (n : ℕ) (accepted : (typing_of ds ws n).code ≡ 0) (s : Step) {T : Typing} (is : T ≡ typing_of ds ws n) {out : List ℕ} {r : Rewritten}
-    (m : Made (tree ds ws n accepted) (step_in ds ws n s) s.place out r) where
-  pub shows_refused : r.code ≢ 0 → {p : Typing} → p ≡ shown r.code s.place n T.depth T.of → p ≡ preview_of ds ws n s
-  shows_refused z e =
-      let h = is-typed ds ws n accepted in
-      let bad : (step_in ds ws n s).code ≢ 0 = λ c. z (m.code ∙ c) in
-      let deep = ap (λ (a : Typing). a.depth) is ∙ typed-depth h ∙ ap depth (sym (stays ds ws n accepted s bad)) in
-      e ∙ preview_of_lem h s m.code (refused-length ds ws n accepted s bad) deep (ap (λ (a : Typing). a.of) is)
+module _ (ds ws : List ℕ) (n : ℕ) (accepted : (typing_of ds ws n).code ≡ 0) (s : Step) {T : Typing} (is : T ≡ typing_of ds ws n) where
+  told : (T.code ≡ 0) × (T.side ≡ 0) × (T.at ≡ 0) × (T.length ≡ n) × (T.depth ≡ depth (tree ds ws n accepted))
+  told = rw is (typed-told (is-typed ds ws n accepted))
 
-  pub shows_kept : r.code ≡ 0 → keeps_depth (rule_of s.rule) ≡ true → {p : Typing} → p ≡ shown 0 s.place (s.place + r.end) T.depth T.of → p ≡ preview_of ds ws n s
-  shows_kept z k e =
-      let h = is-typed ds ws n accepted in
-      let deep = ap (λ (a : Typing). a.depth) is ∙ typed-depth h ∙ sym (kept-depth (outcome ds ws n accepted s) (sym m.code ∙ z) k) in
-      e ∙ preview_of_lem h s (sym z ∙ m.code) (new-length ds ws n accepted s out r m z) deep (ap (λ (a : Typing). a.of) is)
+  same-of : T.of ≡ (typing_of ds ws n).of
+  same-of = ap (λ (a : Typing). a.of) is
 
-  pub shows_done : r.code ≡ 0 → {d : ℕ} → d ≡ part_depth (take s.place ws ++ take r.end out) 0 → {p : Typing} → p ≡ shown 0 s.place (s.place + r.end) d T.of → p ≡ preview_of ds ws n s
-  shows_done z deep e =
-      let h = is-typed ds ws n accepted in
-      let all = ap (λ (v : List ℕ). part_depth v 0) (sym (all_words ds ws n accepted s out r m z)) in
-      let d = deep ∙ all ∙ words-depth (step_in ds ws n s).tree (kept h s).form.formed in
-      e ∙ preview_of_lem h s (sym z ∙ m.code) (new-length ds ws n accepted s out r m z) d (ap (λ (a : Typing). a.of) is)
+  at-start : T.at ≡ cond (eqb T.code 0) 0 s.place
+  at-start = rw (told.2, told.0)
+
+  pub shows_refused : {out : List ℕ} (e : Refusal) → Made (tree ds ws n accepted) (step_in ds ws n s) s.place out (Err e) → {code : ℕ} → code ≡ code_of e
+      → record { code = code; side = T.side; step = 1; at = s.place; length = T.length; depth = T.depth; of = T.of } ≡ preview_of ds ws n s
+  shows_refused {out} e m {code} c =
+      let bad = refused_code ds ws n accepted s out e m in
+      let deep = told.4 ∙ ap depth (sym (stays ds ws n accepted s bad)) in
+      let at : s.place ≡ cond (eqb code 0) 0 s.place = rw (c, ne_eqb _ 0 (some_code e)) in
+      preview_of_lem (is-typed ds ws n accepted) s (c ∙ m.code) told.1 at (told.3 ∙ refused-length ds ws n accepted s bad) deep same-of
+
+  module _ {out : List ℕ} {end : ℕ} (m : Made (tree ds ws n accepted) (step_in ds ws n s) s.place out (Ok end)) where
+    shows : (d : ℕ) → d ≡ depth (step_in ds ws n s).tree
+        → record { code = T.code; side = T.side; step = 1; at = T.at; length = s.place + end; depth = d; of = T.of } ≡ preview_of ds ws n s
+    shows d deep = preview_of_lem (is-typed ds ws n accepted) s (told.0 ∙ m.code) told.1 at-start (new-length ds ws n accepted s out end m) deep same-of
+
+    pub shows_kept : keeps_depth (rule_of s.rule) ≡ true
+        → record { code = T.code; side = T.side; step = 1; at = T.at; length = s.place + end; depth = T.depth; of = T.of } ≡ preview_of ds ws n s
+    shows_kept k = shows T.depth (told.4 ∙ sym (kept-depth (outcome ds ws n accepted s) (sym m.code) k))
+
+    pub shows_done : {d : ℕ} → d ≡ part_depth (take s.place ws ++ take end out) 0
+        → record { code = T.code; side = T.side; step = 1; at = T.at; length = s.place + end; depth = d; of = T.of } ≡ preview_of ds ws n s
+    shows_done {d} deep =
+        let all = ap (λ (v : List ℕ). part_depth v 0) (sym (all_words ds ws n accepted s out end m)) in
+        shows d (deep ∙ all ∙ words-depth (step_in ds ws n s).tree (kept (is-typed ds ws n accepted) s).form.formed)
 
 -- two runs of words in one slice
 pub both-there : (out front back : List ℕ) {mid all : List ℕ} {m e : ℕ} → (m ≡ min (0 + length front) (length out + 1)) × (mid ≡ laid out 0 front)

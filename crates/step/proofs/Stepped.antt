@@ -1,7 +1,7 @@
 -- A step by its tests, one after the other, from what the code finds.
 use mathlib.Core.Path.{◌≡◌, refl, sym, ◌∙◌, ap}
-use mathlib.Core.Logic.{◌≢◌}
-use mathlib.Core.Bool.{Bool, true, false, and-eq-true_iff}
+use mathlib.Core.Bool.{Bool, true, false, cond, and-eq-true_iff}
+use Rattle.std.specs.Prelude.{Option as Found, Some, None, Result, Ok, Err, IsErrAnd}
 use mathlib.Core.List.{List, [], append-nil}
 use mathlib.Core.Option.{Option, some, none}
 use Prim.Native.Nat.{ℕ, zero, suc, ◌+◌, ◌-◌, ◌≤◌, ◌<◌}
@@ -32,12 +32,14 @@ use Rattle.rules.proofs.AllTypes.{rule-keeps}
 use Rattle.rules.proofs.Formed.{typed-formed}
 use Rattle.rules.proofs.Rules.{decides}
 use Rattle.rulebook.specs.declared.Row.{Row}
+use Rattle.rulebook.specs.declared.Family.TheVariants as F
 use Rattle.rulebook.specs.Code.Rows.{row_of}
-use Rattle.families.specs.declared.writing.Rewritten.{Rewritten}
+use Rattle.families.specs.declared.writing.Refusal.{Refusal}
 use Rattle.families.specs.declared.writing.Replaced.{Replaced}
-use Rattle.families.specs.Writing.{may_deepen, Measures}
+use Rattle.families.specs.declared.writing.Refusal.TheVariants.{NoRule, NoPart}
+use Rattle.families.specs.Writing.{code_of, may_deepen, Measures}
 use Rattle.families.proofs.Depths.{no_deeper}
-use Rattle.families.proofs.Written.{Way, refused, done, exceeded, way, way_size}
+use Rattle.families.proofs.Written.{Way, refused, done, exceeded, way, passed_up}
 use Rattle.families.proofs.Lines.{Ruled, unruled}
 use Rattle.shapes.specs.Bodies.{index_by, back, bound_in, outer_at, Bound}
 use Rattle.shapes.proofs.Theorems.{bound-inside}
@@ -140,30 +142,34 @@ many_by : (t : Tree) (k : ℕ) (u : Tree) → k < length (words t) → few u ≡
 many_by t k u h f true e = absurd (let g = few-part t k u h e in let z : ◌≡◌ {A = ℕ} 0 1 = cc in omega arith)
 many_by t k u h f false e = e
 
+-- ---- a depth that is told only where it is asked for
+told : (b : Bool) (n d : ℕ) {o : Found ℕ} → o ≡ cond b (Some n) None → o ≡ Some d → d ≡ n
+told true n d e h = cc
+told false n d e h = cc
+
+untold : (b : Bool) (n : ℕ) {o : Found ℕ} → o ≡ cond b (Some n) None → o ≡ None → b ≡ false
+untold true n e h = cc
+untold false n e h = refl
+
 -- ---- the answers
 module _ {ds term : List ℕ} (x : Termed ds term) (s : Step) where
   abbrev after : Stepped
   after = step_of (context_in ds) x.tree s
 
-  abbrev MadeBy : List ℕ → Rewritten → Type 0
+  abbrev MadeBy : List ℕ → Result ℕ Refusal → Type 0
   MadeBy out r = Made x.tree after s.place out r
 
-  module _ (out : List ℕ) (r : Rewritten) (size : length out ≡ max_words) where
-    refused_by : (c : ℕ) → after ≡ record { code = c; tree = x.tree } → c ≢ 0 → r.code ≡ c → MadeBy out r
-    refused_by c e h f =
-        rw e (record { size = size; code = f; fits = λ z. absurd (h (sym f ∙ z)); words_are = λ z. absurd (h (sym f ∙ z)); stays = λ z. refl })
+  refused_by : (out : List ℕ) (e : Refusal) → length out ≡ max_words → after ≡ record { code = code_of e; tree = x.tree } → MadeBy out (Err e)
+  refused_by out e size h = rw h (record { size = size; code = refl; fits = tt; words_are = tt; stays = refl })
 
-    pub made_20 : (row : Row) → row ≡ row_of s.rule → row.family ≡ 0 → r.code ≡ 20 → MadeBy out r
-    made_20 row e h = refused_by 20 (step_20 (context_in ds) x.tree s (unruled s.rule row e h)) (omega arith)
+  module _ (out : List ℕ) (size : length out ≡ max_words) where
+    pub made_20 : (row : Row) → row ≡ row_of s.rule → row.family ≡ F.NoRule → MadeBy out (Err NoRule)
+    made_20 row e h = refused_by out NoRule size (step_20 (context_in ds) x.tree s (unruled s.rule row e h))
 
-    pub made_21 : {row : Row} → Ruled row s.rule → length term ≤ s.place → r.code ≡ 21 → MadeBy out r
-    made_21 k h = refused_by 21 (step_21 (context_in ds) x.tree s k.is (outside_by x.tree s.place (rw x.is h) _ refl)) (omega arith)
+    pub made_21 : {row : Row} → Ruled row s.rule → length term ≤ s.place → MadeBy out (Err NoPart)
+    made_21 k h = refused_by out NoPart size (step_21 (context_in ds) x.tree s k.is (outside_by x.tree s.place (rw x.is h) _ refl))
 
-  module _ {row : Row} (k : Ruled row s.rule) (below : s.place < length term) (old : List ℕ) (size : length old ≡ max_words) (out : List ℕ) (m : Replaced)
-      (promise : Promise ds term s old out m.written) where
-    abbrev r : Rewritten
-    r = m.written
-
+  module _ {row : Row} (k : Ruled row s.rule) (below : s.place < length term) (old : List ℕ) (size : length old ≡ max_words) (out : List ℕ) where
     abbrev here : Tree
     here = (place x.tree s.place (within-words x s.place below)).here
 
@@ -176,23 +182,21 @@ module _ {ds term : List ℕ} (x : Termed ds term) (s : Step) where
     is-there : subtree x.tree s.place ≡ found here
     is-there = there x s.place below
 
-    its_way : Way old out r result
-    its_way = way result (rw (site_tree x s.place below, site_context x s.place below) at (promise (site x s.place below) k.rule k.is))
-
-    out_size : length out ≡ max_words
-    out_size = way_size its_way ∙ size
+    its_way : (r : Result ℕ Refusal) → Promise ds term s old out r → Way old out r result
+    its_way r promise = way r result (rw (site_tree x s.place below, site_context x s.place below) at (promise (site x s.place below) k.rule k.is))
 
     -- where the rewriting refused
-    made_22_by : {o : Option Tree} → Way old out r o → result ≡ o → r.code ≢ 0 → MadeBy out r
-    made_22_by (refused c l) e h = refused_by out r out_size 22 (step_22 (context_in ds) x.tree s k.is is-there e) (omega arith) c
-    made_22_by (done q f c a) e h = absurd (h c)
-    made_22_by (exceeded q f c l) e h =
-        refused_by out r out_size 23
-        (step-limited (context_in ds) x.tree s k.is is-there e
-        ∙ too_many x.tree (replace x.tree s.place q) (many_by x.tree s.place q (within-words x s.place below) f _ refl)) (omega arith) c
+    made_22_by : (e : Refusal) {o : Option Tree} → Way old out (Err e) o → result ≡ o → MadeBy out (Err e)
+    made_22_by e (refused _ c l) h =
+        refused_by out e (l ∙ size) (step_22 (context_in ds) x.tree s k.is is-there h ∙ ap (λ (n : ℕ). record { code = n; tree = x.tree }) (sym c))
+    made_22_by e (exceeded _ q f c l) h =
+        refused_by out e (l ∙ size)
+        (step-limited (context_in ds) x.tree s k.is is-there h
+        ∙ too_many x.tree (replace x.tree s.place q) (many_by x.tree s.place q (within-words x s.place below) f _ refl)
+        ∙ ap (λ (n : ℕ). record { code = n; tree = x.tree }) (sym c))
 
-    pub made_22 : r.code ≢ 0 → MadeBy out r
-    made_22 = made_22_by its_way refl
+    pub made_22 : (e : Refusal) (r : Result ℕ Refusal) → IsErrAnd r (λ x. x ≡ e) → Promise ds term s old out (Err e) → MadeBy out r
+    made_22 e r h promise = rw (passed_up e r h) (made_22_by e (its_way (Err e) promise) refl)
 
     result_formed : (q : Tree) → result ≡ some q → few q ≡ true → Formed q
     result_formed q e f =
@@ -204,22 +208,19 @@ module _ {ds term : List ℕ} (x : Termed ds term) (s : Step) where
         typed-formed X (rule-keeps X s.rule k.rule k.is s.i s.j here q p.0 i p.1) f
 
     -- and where it did not, with what is told of the part
-    module _ (part-is : Measures s.rule (words_from term s.place) m) where
+    module _ (m : Replaced) (promise : Promise ds term s old out (Ok m.end)) (part-is : Measures s.rule (words_from term s.place) m) where
       pub record Fine : Type 0 where
         pub fresh : Fresh term s.place m out
         same : fresh.tree ≡ x.tree
         steps : after ≡ limited fresh.tree (replace fresh.tree s.place fresh.result)
 
-      deepens-is : m.deepens ≡ may_deepen (some k.rule)
-      deepens-is = part-is.deepens ∙ ap may_deepen k.is
+      was_deep : (d : ℕ) → m.depth ≡ Some d → d ≡ depth here
+      was_deep d z = told (may_deepen (rule_of s.rule)) _ d part-is.depth z ∙ (site_part x s.place below).1 ∙ ap depth (site_tree x s.place below)
 
-      was_deep : m.deepens ≡ true → m.depth ≡ depth here
-      was_deep z = (rw (sym part-is.deepens ∙ z) at part-is.depth) ∙ (site_part x s.place below).1 ∙ ap depth (site_tree x s.place below)
+      stays-flat : (q : Tree) → result ≡ some q → m.depth ≡ None → depth q ≤ depth here
+      stays-flat q e z = no_deeper k.rule (ap may_deepen (sym k.is) ∙ untold (may_deepen (rule_of s.rule)) _ part-is.depth z) Δ s.i s.j here q e
 
-      stays-flat : (q : Tree) → result ≡ some q → m.deepens ≡ false → depth q ≤ depth here
-      stays-flat q e z = no_deeper k.rule (sym deepens-is ∙ z) Δ s.i s.j here q e
-
-      fresh_of : (q : Tree) → result ≡ some q → few q ≡ true → Added old 0 (words q) out m.written.end → Fresh term s.place m out
+      fresh_of : (q : Tree) → result ≡ some q → few q ≡ true → Added old 0 (words q) out m.end → Fresh term s.place m out
       fresh_of q e f a =
           record {
             tree = x.tree;
@@ -234,20 +235,18 @@ module _ {ds term : List ℕ} (x : Termed ds term) (s : Step) where
             result = q;
             result_formed = result_formed q e f;
             flat = stays-flat q e;
-            size = out_size;
+            size = a.size ∙ size;
             new_end = rw (size, zero-add) at a.end;
-            written = λ l. let n : m.written.end ≡ 0 + length (words q) = omega (arith, a.end, size) in rw n (a.front (omega (arith, size)));
+            written = λ l. let n : m.end ≡ 0 + length (words q) = omega (arith, a.end, size) in rw n (a.front (omega (arith, size)));
           }
 
-      fine_by : {o : Option Tree} → Way old out r o → result ≡ o → r.code ≡ 0 → Fine
+      fine_by : {o : Option Tree} → Way old out (Ok m.end) o → result ≡ o → Fine
       unfolding fresh_of
-      fine_by (refused c l) e z = absurd (omega (arith, c, z))
-      fine_by (done q f c a) e z = record { fresh = fresh_of q e f a; same = refl; steps = step-limited (context_in ds) x.tree s k.is is-there e }
-      fine_by (exceeded q f c l) e z = absurd (omega (arith, c, z))
+      fine_by (done q f a) e = record { fresh = fresh_of q e f a; same = refl; steps = step-limited (context_in ds) x.tree s k.is is-there e }
 
-      pub fine : r.code ≡ 0 → Fine
-      fine = fine_by its_way refl
+      pub fine : Fine
+      fine = fine_by (its_way (Ok m.end) promise) refl
 
-      pub finished : {out' : List ℕ} {r' : Rewritten} (f : Fine)
-          → Made f.fresh.tree (limited f.fresh.tree (replace f.fresh.tree s.place f.fresh.result)) s.place out' r' → MadeBy out' r'
+      pub finished : {out' : List ℕ} {r : Result ℕ Refusal} (f : Fine)
+          → Made f.fresh.tree (limited f.fresh.tree (replace f.fresh.tree s.place f.fresh.result)) s.place out' r → MadeBy out' r
       finished f m = rw (f.steps, ← f.same) m

@@ -24,12 +24,23 @@ use Rattle.rules.specs.Outcomes.{Outcome, good, no_rule, no_place, no_instance, 
 use Rattle.rules.proofs.Steps.{step_decided}
 use Rattle.lent.specs.declared.steps.Step.{Step}
 use Rattle.step.specs.declared.single.Answer.{Answer}
-use Rattle.families.specs.declared.writing.Rewritten.{Rewritten}
+use Rattle.families.specs.declared.writing.Refusal.{Refusal}
+use Rattle.families.specs.declared.writing.Refusal.TheVariants.{NoRule, NoPart, NoInstance, TooBig}
+use Rattle.families.specs.Writing.{code_of}
+use Rattle.families.proofs.Written.{passed_up}
+use Rattle.std.specs.Prelude.{Result, Ok, Err, IsErrAnd}
 use Rattle.lent.specs.Lent.{asked}
 use Rattle.step.specs.Answers.{held, step_in, step_refusal, stepped, answer_to, words_left}
-use Rattle.step.specs.Code.Making.{Termed, Made}
+use Rattle.step.specs.Code.Making.{Termed, code_in, length_in, Made}
 use Rattle.step.proofs.Theorems.{refusals}
 use Rattle.step.proofs.Held.{accepted-code, its_step, its_type}
+
+-- ---- no refusal has the code of a good step
+pub some_code : (e : Refusal) → code_of e ≢ 0
+some_code NoRule h = omega arith
+some_code NoPart h = omega arith
+some_code NoInstance h = omega arith
+some_code TooBig h = omega arith
 
 -- ---- what an outcome tells of the term and the place
 pub stays_by : {Γ : Context} {t u : Tree} {s : R.Step} {c : ℕ} → Outcome Γ t s c u → c ≢ 0 → u ≡ t
@@ -47,10 +58,10 @@ inside_by (no_instance e f x) h = absurd (omega arith)
 inside_by (too_big e f x g) h = absurd (omega arith)
 
 -- ---- what is said of a step that was refused, and of one that was done
-abbrev pub Tells : List ℕ → List ℕ → ℕ → Step → ℕ → ℕ → List ℕ → ℕ → Type 0
-Tells ds ws n s code length' ws' size =
+abbrev pub Tells : List ℕ → List ℕ → ℕ → Step → Result ℕ Refusal → List ℕ → Type 0
+Tells ds ws n s r ws' =
     let after = step_in ds ws n s in
-    (code ≡ after.code) × (length' ≡ length (words after.tree)) × (ws' ≡ held after.tree) × (size ≡ max_words)
+    (code_in r ≡ after.code) × (length_in n r ≡ length (words after.tree)) × (ws' ≡ held after.tree)
 
 module _ (ds ws : List ℕ) (n : ℕ) (accepted : (typing_of ds ws n).code ≡ 0) where
   abbrev pub tree : Tree
@@ -96,38 +107,43 @@ module _ (ds ws : List ℕ) (n : ℕ) (accepted : (typing_of ds ws n).code ≡ 0
     refused-slice h = sym (ap held (stays h) ∙ held-tree)
 
     -- ---- where the words from the place on were made apart
-    module _ (out : List ℕ) (r : Rewritten) (m : Made tree after s.place out r) (h : r.code ≡ 0) where
-      pub room : s.place + r.end ≤ length ws
-      room = omega (arith, m.fits h, slice-size)
+    module _ (out : List ℕ) (end : ℕ) (m : Made tree after s.place out (Ok end)) where
+      pub room : s.place + end ≤ length ws
+      room = omega (arith, m.fits, slice-size)
 
-      pub room_out : r.end ≤ length out
-      room_out = omega (arith, m.fits h, m.size)
+      pub room_out : end ≤ length out
+      room_out = omega (arith, m.fits, m.size)
 
-      pub all_words : words after.tree ≡ take s.place ws ++ take r.end out
+      pub all_words : words after.tree ≡ take s.place ws ++ take end out
       all_words =
-          let i = inside_by outcome (sym m.code ∙ h) in
-          m.words_are h ∙ rw (is-typed.is, take-take s.place n ws (omega (arith, i, tree-length)))
+          let i = inside_by outcome (sym m.code) in
+          m.words_are ∙ rw (is-typed.is, take-take s.place n ws (omega (arith, i, tree-length)))
 
-      pub new-length : s.place + r.end ≡ length (words after.tree)
+      pub new-length : s.place + end ≡ length (words after.tree)
       new-length =
           sym
-          (ap length all_words ∙ length-append (take s.place ws) (take r.end out)
-          ∙ rw (length-take-le s.place ws (omega (arith, room)), length-take-le r.end out room_out))
+          (ap length all_words ∙ length-append (take s.place ws) (take end out)
+          ∙ rw (length-take-le s.place ws (omega (arith, room)), length-take-le end out room_out))
 
-      new-slice : take s.place ws ++ (take r.end out ++ replicate (length ws - (s.place + length (take r.end out))) 0) ≡ held after.tree
+      new-slice : take s.place ws ++ (take end out ++ replicate (length ws - (s.place + length (take end out))) 0) ≡ held after.tree
       unfolding held
       new-slice =
-          rw (← new-length, all_words, slice-size, length-take-le r.end out room_out)
-          (sym (append_assoc (take s.place ws) (take r.end out) (replicate (max_words - (s.place + r.end)) 0)))
+          rw (← new-length, all_words, slice-size, length-take-le end out room_out)
+          (sym (append_assoc (take s.place ws) (take end out) (replicate (max_words - (s.place + end)) 0)))
 
-    pub refuses : (out : List ℕ) (r : Rewritten) → Made tree after s.place out r → r.code ≢ 0 → cleared ws n ≡ ws → Tells ds ws n s r.code n ws (length out)
-    refuses out r m h z = (m.code, refused-length (λ e. h (m.code ∙ e)), sym z ∙ refused-slice (λ e. h (m.code ∙ e)), m.size)
+    -- a refusal's code is none of 0
+    pub refused_code : (out : List ℕ) (e : Refusal) → Made tree after s.place out (Err e) → after.code ≢ 0
+    refused_code out e m h = some_code e (m.code ∙ h)
 
-    pub does : (out : List ℕ) (r : Rewritten) (ws' : List ℕ) → Made tree after s.place out r → r.code ≡ 0
-        → ws' ≡ take s.place ws ++ (take r.end out ++ replicate (length ws - (s.place + length (take r.end out))) 0) → Tells ds ws n s 0 (s.place + r.end) ws' (length out)
-    does out r ws' m h e = (sym h ∙ m.code, new-length out r m h, e ∙ new-slice out r m h, m.size)
+    pub refuses : (out : List ℕ) (e : Refusal) → Made tree after s.place out (Err e) → cleared ws n ≡ ws → (r : Result ℕ Refusal) → IsErrAnd r (λ x. x ≡ e)
+        → Tells ds ws n s r ws
+    refuses out e m z r k = let h = refused_code out e m in rw (passed_up e r k) (m.code, refused-length h, sym z ∙ refused-slice h)
 
-    pub made_for : (out : List ℕ) (r : Rewritten) → ((x : Termed ds (take n ws)) → Made x.tree (R.step_of (context_in ds) x.tree (asked s)) s.place out r)
+    pub does : (out : List ℕ) (end : ℕ) (ws' : List ℕ) → Made tree after s.place out (Ok end)
+        → ws' ≡ take s.place ws ++ (take end out ++ replicate (length ws - (s.place + length (take end out))) 0) → Tells ds ws n s (Ok (s.place + end)) ws'
+    does out end ws' m e = (m.code, new-length out end m, e ∙ new-slice out end m)
+
+    pub made_for : (out : List ℕ) (r : Result ℕ Refusal) → ((x : Termed ds (take n ws)) → Made x.tree (R.step_of (context_in ds) x.tree (asked s)) s.place out r)
         → Made tree after s.place out r
     unfolding termed
     made_for out r m = rw (its_step is-typed s) (m termed)
@@ -158,23 +174,22 @@ module _ (ds ws : List ℕ) (n : ℕ) (accepted : (typing_of ds ws n).code ≡ 0
   cleared-step s = rw take-cleared
 
   -- what the entry answers and leaves, from what the step on the cleared slice did
-  module _ (s : Step) (code length' at size : ℕ) (mid ws' : List ℕ) (is : mid ≡ cleared ws n) (told : Tells ds mid n s code length' ws' size)
-      (at-is : at ≡ cond (eqb code 0) 0 s.place) where
+  module _ (s : Step) (r : Result ℕ Refusal) (mid ws' : List ℕ) (is : mid ≡ cleared ws n) (told : Tells ds mid n s r ws') where
     same_step : step_in ds mid n s ≡ step_in ds ws n s
     same_step = ap (λ (v : List ℕ). step_in ds v n s) is ∙ cleared-step s
 
-    code_is : code ≡ (step_in ds ws n s).code
+    code_is : code_in r ≡ (step_in ds ws n s).code
     code_is = rw same_step at told.0
 
-    length-is : length' ≡ length (words (step_in ds ws n s).tree)
+    length-is : length_in n r ≡ length (words (step_in ds ws n s).tree)
     length-is = rw same_step at told.1
 
     slice_is : ws' ≡ held (step_in ds ws n s).tree
     slice_is = rw same_step at told.2
 
-    pub entry_done : (record { code = code; side = 0; step = 1; at = at; length = length' } ≡ answer_to ds ws n s) × (ws' ≡ words_left ds ws n s)
+    pub entry_done : (record { code = code_in r; side = 0; step = 1; at = cond (eqb (code_in r) 0) 0 s.place; length = length_in n r } ≡ answer_to ds ws n s) × (ws' ≡ words_left ds ws n s)
     unfolding answer_to words_left stepped
-    entry_done = (rw (accepted, at-is, code_is, length-is), rw accepted slice_is)
+    entry_done = (rw (accepted, code_is, length-is), rw accepted slice_is)
 
 -- ---- and where typing refused
 module _ (ds ws : List ℕ) (n : ℕ) (s : Step) (T : Typing) (r : Answer) (is : T ≡ typing_of ds ws n) (answer : r ≡ step_refusal T.code T.at) where

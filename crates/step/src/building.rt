@@ -9,87 +9,72 @@ ghost use Rattle.shapes.specs.Bodies.{outer_at};
 ghost use Rattle.step.specs.Code.Building.{HasSort, chosen_index, piece, pieces, asks, all_ask, indexless, Caught, AllSorted};
 
 use matcher::Match;
-use shapes::{append_side, class_of};
-use term::heads::SCALAR_ZERO;
-use words::{append_run, append_word};
+use shapes::{View, append_side, class_of};
+use term::heads::{Class, SCALAR_ZERO};
+use term::parts::Side;
+use words::{append, append_word};
+
+// The heads of a right side's words that are none of a term's, which are all lower: 255:k is what hole k holds, 253:k the second index of its type, and 254:k, the only other, the first.
+const HOLE: u16 = 255;
+
+const SECOND_INDEX: u16 = 253;
 
 // The index of the type of the part with which the words begin, written behind what stands there: an operator's second is that of its columns, and a bra's
 // only one too. Where the type has none it is 5:0, the `no_index` of `rules`. The part stands in the bodies that are around the place of the term.
-fn append_index(
-    ds: &[u16],
-    term: &[u16],
-    place: usize,
-    part: &[u16],
-    second: bool,
-    out: &mut [u16],
-    at: usize,
-) -> usize
-    requires { (bodies : List Tree) × HasSort ds.now bodies (outer_at term.now place) part.now }
-    ensures { (bodies : List Tree) → HasSort ds.now bodies (outer_at term.now place) part.now
-        → Added out.old at (words (chosen_index second (sort_of (context_at ds.now bodies) (tree_in (parse part.now))))) out.new result }
+fn append_index(ds: &[u16], part: View, second: bool, out: &mut [u16], at: usize) -> usize
+    requires { (bodies : List Tree) × HasSort ds.now bodies (outer_at part.term.now part.place) part.ws.now }
+    ensures { (bodies : List Tree) → HasSort ds.now bodies (outer_at part.entry.term.now part.entry.place) part.entry.ws.now
+        → Added out.old at (words (chosen_index second (sort_of (context_at ds.now bodies) (tree_in (parse part.entry.ws.now))))) out.new result }
 {
-    // 4 a ket, 5 a bra, 6 an operator
-    let class = class_of(ds, part, 0, 64);
+    let class = class_of(ds, part.ws, 0, 64);
+    // not one match on the class and `second`: its arms join before the words are written, and `returns` is not told the side
     if second {
-        if class == 6 {
-            return append_side(ds, term, place, part, 0, true, 64, out, at);
-        }
-        return append_word(out, at, SCALAR_ZERO);
+        return match class {
+            Class::Operator => append_side(ds, part, 0, Side::Right, 64, out, at),
+            _ => append_word(out, at, SCALAR_ZERO),
+        };
     }
-    if class < 4 {
-        return append_word(out, at, SCALAR_ZERO);
+    match class {
+        Class::Ket => append_side(ds, part, 0, Side::Left, 64, out, at),
+        Class::Bra => append_side(ds, part, 0, Side::Right, 64, out, at),
+        Class::Operator => append_side(ds, part, 0, Side::Left, 64, out, at),
+        _ => append_word(out, at, SCALAR_ZERO),
     }
-    append_side(ds, term, place, part, 0, class == 5, 64, out, at)
 }
 
-// One word of the right side, for a match of the part with which the words begin. What a hole holds is a further part of them.
-fn build_word(
-    ds: &[u16],
-    term: &[u16],
-    place: usize,
-    ws: &[u16],
-    found: Match,
-    word: u16,
-    out: &mut [u16],
-    at: usize,
-) -> usize
-    requires { ((x : Caught ds.now ws.now found) × (x.outer ≡ outer_at term.now place) × ((indexless (word ∷ []) ≡ true) ⊎ AllSorted x)) × (asks found.held word ≡ true) }
-    ensures { (x : Caught ds.now ws.now found)
-        → x.outer ≡ outer_at term.now place → (indexless (word ∷ []) ≡ true) ⊎ AllSorted x
+// One word of the right side, for a match of the part with which the words begin. What a hole holds is a further part of them. Here, for a whole side and in `is_met` the premises on a match
+// are no one record: the last of them is of the word, of the side or of the condition.
+fn build_word(ds: &[u16], view: View, found: Match, word: u16, out: &mut [u16], at: usize) -> usize
+    requires { ((x : Caught ds.now view.ws.now found) × (x.outer ≡ outer_at view.term.now view.place) × ((indexless (word ∷ []) ≡ true) ⊎ AllSorted x)) × (asks found.held word ≡ true) }
+    ensures { (x : Caught ds.now view.entry.ws.now found)
+        → x.outer ≡ outer_at view.entry.term.now view.entry.place → (indexless (word ∷ []) ≡ true) ⊎ AllSorted x
         → Added out.old at (piece (context_at ds.now x.bodies) x.trees word) out.new result }
 {
-    if word / 256 < 253 {
+    if word / 256 < SECOND_INDEX {
         return append_word(out, at, word);
     }
     let hole = (word % 256) as usize;
-    let start = found.starts[hole];
-    if word / 256 == 255 {
-        let end = found.ends[hole];
-        return append_run(out, at, ws, start, end);
+    if word / 256 == HOLE {
+        return append(out, at, found.part(view.ws, hole));
     }
-    append_index(ds, term, place, &ws[start..], word / 256 == 253, out, at)
+    let start = found.holes[hole].start;
+    let part = View {
+        ws: &view.ws[start..],
+        ..view
+    };
+    append_index(ds, part, word / 256 == SECOND_INDEX, out, at)
 }
 
 // All words of a right side.
-pub fn build_side(
-    ds: &[u16],
-    term: &[u16],
-    place: usize,
-    ws: &[u16],
-    found: Match,
-    side: &[u16],
-    out: &mut [u16],
-) -> usize
-    requires { ((x : Caught ds.now ws.now found) × (x.outer ≡ outer_at term.now place) × ((indexless side.now ≡ true) ⊎ AllSorted x)) × (all_ask found.held side.now ≡ true) }
-    ensures { (x : Caught ds.now ws.now found)
-        → x.outer ≡ outer_at term.now place → (indexless side.now ≡ true) ⊎ AllSorted x
+pub fn build_side(ds: &[u16], view: View, found: Match, side: &[u16], out: &mut [u16]) -> usize
+    requires { ((x : Caught ds.now view.ws.now found) × (x.outer ≡ outer_at view.term.now view.place) × ((indexless side.now ≡ true) ⊎ AllSorted x)) × (all_ask found.held side.now ≡ true) }
+    ensures { (x : Caught ds.now view.entry.ws.now found)
+        → x.outer ≡ outer_at view.entry.term.now view.entry.place → (indexless side.now ≡ true) ⊎ AllSorted x
         → Added out.old 0 (pieces (context_at ds.now x.bodies) x.trees side.now) out.new result }
 {
     let mut done = 0;
-    let mut k = 0;
-    while k < side.len() {
-        done = build_word(ds, term, place, ws, found, side[k], out, done);
-        k += 1;
+    for &word in side {
+        done = build_word(ds, view, found, word, out, done);
     }
     done
 }

@@ -12,26 +12,27 @@ ghost use Rattle.families.specs.Writing.{Writes};
 
 use crate::building::build_side;
 use declarations::is_marked;
-use families::writing::{NO_INSTANCE, Rewritten};
+use families::writing::Refusal;
 use lent::steps::Step;
 use matcher::{Match, match_words};
 use rulebook::{Row, copy_from};
-use shapes::class_of;
+use shapes::{View, class_of};
 use term::heads::OWN_BASIS;
+use typebook::number;
 use words::word_at;
+
+// The conditions of equations, by their numbers in the rows: the kinds from 1 to 3 stand between. A row's last number is a head where its family asks for one, so it stays a number.
+const ANY: u16 = 0;
+
+const UNUSED: u16 = 4;
+
+const MARKED: u16 = 5;
 
 // Whether no word is the given one.
 fn is_without(ws: &[u16], word: u16) -> bool
     ensures { result ≡ lacks word ws.now }
 {
-    let mut k = 0;
-    while k < ws.len() {
-        if ws[k] == word {
-            return false;
-        }
-        k += 1;
-    }
-    true
+    !ws.contains(&word)
 }
 
 // Whether the parts in the holes meet the condition of a rule: that in hole 0 is of a kind or a marked variable, or that in hole 1 does not use the basis that the part binds.
@@ -40,46 +41,46 @@ fn is_met(ds: &[u16], ws: &[u16], found: Match, condition: u16) -> bool
     ensures { (x : Caught ds.now ws.now found) (k : Condition)
         → condition ≡ condition_number k → (of_words k ≡ true) ⊎ AllSorted x → result ≡ satisfied (context_at ds.now x.bodies) k (holes x.trees) }
 {
-    if condition == 0 {
-        return true;
+    match condition {
+        ANY => true,
+        UNUSED => is_without(found.part(ws, 1), OWN_BASIS),
+        MARKED => is_marked(ds, word_at(ws, found.holes[0].start)),
+        // classes are numbered as kinds are, from the scalars' 3 on
+        _ => number(class_of(ds, &ws[found.holes[0].start..], 0, 64)) as u16 == 3 + condition,
     }
-    if condition == 4 {
-        let start = found.starts[1];
-        let end = found.ends[1];
-        return is_without(&ws[start..end], OWN_BASIS);
-    }
-    let from = found.starts[0];
-    if condition == 5 {
-        return is_marked(ds, word_at(ws, from));
-    }
-    // classes are numbered as kinds are, from the scalars' 3 on
-    class_of(ds, &ws[from..], 0, 64) == 3 + condition
 }
 
 // What the equation that a step names, with its row, makes of the part with which the words begin: those of the term from the place on.
-pub fn equate(ds: &[u16], term: &[u16], ws: &[u16], s: Step, row: Row, out: &mut [u16]) -> Rewritten
+pub fn equate(
+    ds: &[u16],
+    term: &[u16],
+    ws: &[u16],
+    s: Step,
+    row: Row,
+    out: &mut [u16],
+) -> Result<usize, Refusal>
     requires { Site ds.now term.now s.place ws.now × Equation s.rule row }
     ensures { (x : Site ds.now term.now s.place ws.now) (e : Equation s.rule row)
         → Writes (equated_at ds.now x e s.i s.j) out.old out.new result }
 {
-    if s.i != 0 {
-        return NO_INSTANCE;
-    }
-    if s.j != 0 {
-        return NO_INSTANCE;
+    if s.i != 0 || s.j != 0 {
+        return Err(Refusal::NoInstance);
     }
     let mut sides = [0u16; 24];
     copy_from(s.rule as usize, row.a as usize, &mut sides);
     let n = row.b as usize;
     let m = row.c as usize;
-    let found = match_words(&sides[..n], ws);
-    if !found.whole {
-        return NO_INSTANCE;
-    }
+    // not `map_err` and `?`: `is_met-requires` and its like stay open, since the match is then told by way of two more answers
+    let Ok(found) = match_words(&sides[..n], ws) else {
+        return Err(Refusal::NoInstance);
+    };
     if !is_met(ds, ws, found, row.d) {
-        return NO_INSTANCE;
+        return Err(Refusal::NoInstance);
     }
-    let place = s.place as usize;
-    let done = build_side(ds, term, place, ws, found, &sides[n..n + m], out);
-    Rewritten { code: 0, end: done }
+    let view = View {
+        term,
+        place: s.place as usize,
+        ws,
+    };
+    Ok(build_side(ds, view, found, &sides[n..n + m], out))
 }

@@ -2,26 +2,25 @@
 ghost use Rattle.std.specs.Prelude.{◌≡◌, ◌++◌, ◌+◌, ◌≤◌, length};
 ghost use Rattle.words.specs.Words.{laid};
 ghost use Rattle.term.specs.Parts.{part_depth};
-ghost use Rattle.step.specs.Code.Making.{shown};
 ghost use Rattle.step.specs.Previews.{preview_of};
 
-use crate::stepping::make;
+use crate::stepping::{TERM_SIZE, make};
 use families::keeps_depth;
 use lent::steps::Step;
 use term::parts::{depth_told, part_at};
-use typing::terms::{TermType, Typing, type_term};
+use typing::terms::{Typing, type_term};
 use words::append;
 
 // The depth of the term whose words are these and then those, which fit the slice. A lookup tells it, once they stand there, over what stood there before.
-fn depth_in(all: &mut [u16], front: &[u16], back: &[u16]) -> usize
-    requires { length front.now + length back.now ≤ length all.old }
+fn depth_in(all: &mut [u16; TERM_SIZE], front: &[u16], back: &[u16]) -> usize
+    requires { length front.now + length back.now ≤ 4096 }
     ensures { (result ≡ part_depth (front.now ++ back.now) 0)
         × (all.new ≡ laid (laid all.old 0 front.now) (length front.now) back.now) }
 {
     let middle = append(all, 0, front);
     let end = append(all, middle, back);
     let mut depth = 0;
-    let whole = part_at(&all[..end], 0, &mut depth);
+    part_at(&all[..end], 0, &mut depth);
     depth
 }
 
@@ -30,28 +29,11 @@ fn depth_of_both(front: &[u16], back: &[u16]) -> usize
     requires { length front.now + length back.now ≤ 4096 }
     ensures { result ≡ part_depth (front.now ++ back.now) 0 }
 {
-    let depth = depth_told(front, back);
-    if depth != 0 {
+    if let Some(depth) = depth_told(front, back) {
         return depth;
     }
-    let mut all = [0u16; 4096];
+    let mut all = [0u16; TERM_SIZE];
     depth_in(&mut all, front, back)
-}
-
-// What a step answers on a typed term, with the depth of what it leaves. It keeps the type.
-fn showing(code: usize, place: usize, length: usize, depth: usize, of: TermType) -> Typing
-    ensures { result ≡ shown code place length depth of }
-{
-    let at = if code == 0 { 0 } else { place };
-    Typing {
-        code,
-        side: 0,
-        step: 1,
-        at,
-        length,
-        depth,
-        of,
-    }
 }
 
 // Shows one step of the term in the first `n` words of `ws`: every field is what taking the step on a copy answers, or what typing then tells of the copy.
@@ -63,17 +45,26 @@ pub fn preview_step(ds: &[u16], ws: &[u16], n: usize, s: Step) -> Typing
     if typing.code != 0 {
         return typing;
     }
-    let of = typing.of;
+    // a step keeps the type, and a refused one the length and the depth too
+    let kept = Typing { step: 1, ..typing };
     let place = s.place as usize;
-    let mut out = [0u16; 4096];
-    let made = make(ds, &ws[..n], s, &mut out);
-    if made.code != 0 {
-        return showing(made.code, place, n, typing.depth, of);
-    }
-    let end = made.end;
+    let mut out = [0u16; TERM_SIZE];
+    let end = match make(ds, &ws[..n], s, &mut out) {
+        Ok(end) => end,
+        Err(refusal) => return Typing {
+            code: refusal.code(),
+            at: place,
+            ..kept
+        },
+    };
+    let length = place + end;
     if keeps_depth(s.rule as usize) {
-        return showing(0, place, place + end, typing.depth, of);
+        return Typing { length, ..kept };
     }
     let depth = depth_of_both(&ws[..place], &out[..end]);
-    showing(0, place, place + end, depth, of)
+    Typing {
+        length,
+        depth,
+        ..kept
+    }
 }

@@ -1,13 +1,15 @@
 // The run of a derivation's steps on two sides, for a caller who lends declarations, two work slices with their lengths, and the steps. Nothing is relied on.
-ghost use Rattle.std.specs.Prelude.{◌≡◌, ◌≤◌, length, take};
+ghost use Rattle.std.specs.Prelude.{◌≡◌, length};
 ghost use Rattle.lent.specs.Lent.{lent};
 ghost use Rattle.step.specs.Runs.{run_refusal, compared, run_answer, left_after, right_after};
 
-use crate::running::take_from;
+use crate::running::{Lengths, take_from};
+use crate::stepping::TERM_SIZE;
 use lent::faults::{Fault, first_fault};
 use words::{clear_from, first_difference, same};
 
-// The answer: a code with its side, step and place, and the lengths of the two terms that are left.
+// The answer: a code with its side, step and place, and the lengths of the two terms that are left. Its numbers are those that document 01 and the C interface fix, so it is no enum, and
+// not one type with the answer of `single`, which has one length.
 #[derive(Clone, Copy)]
 pub struct Answer {
     pub code: usize,
@@ -32,28 +34,27 @@ pub fn refused_with(f: Fault) -> Answer
     }
 }
 
-// The ends compared, behind `step` good steps: the first `n` words of the one with the first `m` of the other.
-fn compare(left: &[u16], n: usize, right: &[u16], m: usize, step: usize) -> Answer
-    requires { (n ≤ length left.now) × (m ≤ length right.now) }
-    ensures { result ≡ compared (take n left.now) n (take m right.now) m step }
+// The ends compared, behind `step` good steps.
+fn compare(left: &[u16], right: &[u16], step: usize) -> Answer
+    ensures { result ≡ compared left.now (length left.now) right.now (length right.now) step }
 {
-    if same(&left[..n], &right[..m]) {
+    if same(left, right) {
         return Answer {
             code: 0,
             side: 0,
             step,
             at: 0,
-            left: n,
-            right: m,
+            left: left.len(),
+            right: right.len(),
         };
     }
     Answer {
         code: 30,
         side: 0,
         step,
-        at: first_difference(&left[..n], &right[..m]),
-        left: n,
-        right: m,
+        at: first_difference(left, right),
+        left: left.len(),
+        right: right.len(),
     }
 }
 
@@ -72,21 +73,21 @@ pub fn run_steps(
         × (left.new ≡ left_after (lent ds.now left.old n right.old m steps.now count))
         × (right.new ≡ right_after (lent ds.now left.old n right.old m steps.now count)) }
 {
-    let fault = first_fault(ds, left, n, right, m, steps, count);
-    if fault.code == 1 {
-        return refused_with(fault);
-    }
-    if fault.code != 0 {
+    if let Err(fault) = first_fault(ds, left, n, right, m, steps, count) {
+        // two returns, as in `single`: with one for both, `returns-in-Err` stays open
+        if fault.code == 1 {
+            return refused_with(fault);
+        }
         clear_from(left, 0);
         clear_from(right, 0);
         return refused_with(fault);
     }
     clear_from(left, n);
     clear_from(right, m);
-    let mut out = [0u16; 4096];
-    let went = take_from(ds, left, n, right, m, steps, 0, count, &mut out);
-    if went.code != 0 {
-        return went;
+    let mut out = [0u16; TERM_SIZE];
+    let begun = Lengths { left: n, right: m };
+    match take_from(ds, left, right, begun, steps, 0, count, &mut out) {
+        Ok(long) => compare(&left[..long.left], &right[..long.right], count),
+        Err(answer) => answer,
     }
-    compare(left, went.left, right, went.right, went.step)
 }

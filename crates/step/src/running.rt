@@ -5,28 +5,36 @@ ghost use Rattle.declarations.specs.Declarations.{context_in};
 ghost use Rattle.rules.specs.Steps.{Sides, side_number};
 ghost use Rattle.lent.specs.Lent.{asked, step_at, side_in};
 ghost use Rattle.step.specs.Runs.{run_from};
-ghost use Rattle.step.specs.Code.Running.{Ready, step_on, moved_by, numbers_of};
+ghost use Rattle.step.specs.Code.Running.{Ready, lengths_of, step_on, moved_by, moved_to, by_code, taken_to};
 
 use crate::run::Answer;
-use crate::stepping::step_on;
+use crate::stepping::{TERM_SIZE, step_on};
+use families::writing::Refusal;
 use lent::steps::{STEP_WORDS, Step};
+use term::parts::Side;
 
-// The side that a step's first word names, by its number: whatever is not 2 is left.
-fn side_named(word: u16) -> usize
-    ensures { result ≡ side_number (side_in word) }
-{
-    if word == 2 {
-        return 2;
-    }
-    1
+// The lengths of the terms on the two sides. The slices stay beside it: each call lends one of them on, and one struct of both would be taken apart at each place that uses it.
+#[derive(Clone, Copy)]
+pub struct Lengths {
+    pub left: usize,
+    pub right: usize,
 }
 
-// A step on one of two sides: its code, and the lengths of both terms after it.
-#[derive(Clone, Copy)]
-struct Moved {
-    code: usize,
-    left: usize,
-    right: usize,
+// The side that a step's first word names: whatever is not 2 is left. No `Option`: `lent` has tested each side of the steps before the first is taken.
+fn side_named(word: u16) -> Side
+    ensures { result ≡ side_in word }
+{
+    if word == 2 { Side::Right } else { Side::Left }
+}
+
+// A side as an answer tells it.
+fn side_number(side: Side) -> usize
+    ensures { result ≡ side_number side }
+{
+    match side {
+        Side::Left => 1,
+        Side::Right => 2,
+    }
 }
 
 // The step whose words begin at `at`.
@@ -47,83 +55,67 @@ fn step_there(steps: &[u16], at: usize) -> Step
     }
 }
 
-// One step on the side that `side` names.
+// One step on a side: the lengths of both terms behind it, or why it is refused, which moves nothing.
 fn move_side(
     ds: &[u16],
     left: &mut [u16],
-    n: usize,
     right: &mut [u16],
-    m: usize,
-    side: u16,
+    long: Lengths,
+    side: Side,
     s: Step,
-    out: &mut [u16],
-) -> Moved
-    requires { ((p : Sides) × (S : Sort) × Ready ds.now left.old n right.old m p S) × (length out.old ≡ 4096) }
-    ensures { (length out.new ≡ 4096) × ((p : Sides) (S : Sort) → Ready ds.now left.old n right.old m p S
-        → (result.code ≡ (step_on (context_in ds.now) p (record { side = side_in side; step = asked s })).code)
-        × Ready ds.now left.new result.left right.new result.right (moved_by (context_in ds.now) p (record { side = side_in side; step = asked s })) S) }
+    out: &mut [u16; TERM_SIZE],
+) -> Result<Lengths, Refusal>
+    requires { (p : Sides) × (S : Sort) × Ready ds.now left.old right.old long p S }
+    ensures { (p : Sides) (S : Sort) → Ready ds.now left.old right.old long p S
+        → (by_code result ≡ moved_to (step_on (context_in ds.now) p (record { side = side; step = asked s })).code (moved_by (context_in ds.now) p (record { side = side; step = asked s })))
+        × Ready ds.now left.new right.new (lengths_of (moved_by (context_in ds.now) p (record { side = side; step = asked s })))
+        (moved_by (context_in ds.now) p (record { side = side; step = asked s })) S }
 {
-    if side == 2 {
-        let taken = step_on(ds, right, m, s, out);
-        return Moved {
-            code: taken.code,
-            left: n,
-            right: taken.length,
-        };
-    }
-    let taken = step_on(ds, left, n, s, out);
-    Moved {
-        code: taken.code,
-        left: taken.length,
-        right: m,
+    match side {
+        Side::Left => Ok(Lengths {
+            left: step_on(ds, left, long.left, s, out)?,
+            ..long
+        }),
+        Side::Right => Ok(Lengths {
+            right: step_on(ds, right, long.right, s, out)?,
+            ..long
+        }),
     }
 }
 
-// The lent steps from the k-th on up to `to`, or up to the first bad one, which moves nothing.
+// The lent steps from the k-th on up to `to`: the lengths of both terms behind them, or what is answered of the first bad one, which moves nothing.
 pub fn take_from(
     ds: &[u16],
     left: &mut [u16],
-    n: usize,
     right: &mut [u16],
-    m: usize,
+    begun: Lengths,
     steps: &[u16],
     from: usize,
     to: usize,
-    out: &mut [u16],
-) -> Answer
-    requires { ((p : Sides) × (S : Sort) × Ready ds.now left.old n right.old m p S) × (length out.old ≡ 4096) × (from ≤ to) × (to ≤ 1000) × (step_at to ≤ length steps.now) }
-    ensures { (p : Sides) (S : Sort) → Ready ds.now left.old n right.old m p S
-        → (result ≡ numbers_of (run_from (context_in ds.now) p steps.now from to))
-        × Ready ds.now left.new result.left right.new result.right (run_from (context_in ds.now) p steps.now from to).sides S }
+    out: &mut [u16; TERM_SIZE],
+) -> Result<Lengths, Answer>
+    requires { ((p : Sides) × (S : Sort) × Ready ds.now left.old right.old begun p S) × (from ≤ to) × (to ≤ 1000) × (step_at to ≤ length steps.now) }
+    ensures { (p : Sides) (S : Sort) → Ready ds.now left.old right.old begun p S
+        → (result ≡ taken_to (run_from (context_in ds.now) p steps.now from to))
+        × Ready ds.now left.new right.new (lengths_of (run_from (context_in ds.now) p steps.now from to).sides) (run_from (context_in ds.now) p steps.now from to).sides S }
 {
-    let mut a = n;
-    let mut b = m;
-    let mut k = from;
-    while k < to {
+    let mut long = begun;
+    // by `k`, and from `from`: the contract runs from any step to any, and an answer tells the step's number
+    for k in from..to {
         let at = k * STEP_WORDS;
-        let side = steps[at];
+        let side = side_named(steps[at]);
         let s = step_there(steps, at);
-        let moved = move_side(ds, left, a, right, b, side, s, out);
-        if moved.code != 0 {
-            return Answer {
-                code: moved.code,
-                side: side_named(side),
+        match move_side(ds, left, right, long, side, s, out) {
+            Ok(next) => long = next,
+            Err(refusal) => return Err(Answer {
+                code: refusal.code(),
+                side: side_number(side),
                 step: k + 1,
                 at: s.place as usize,
-                left: moved.left,
-                right: moved.right,
-            };
+                left: long.left,
+                right: long.right,
+            }),
         }
-        a = moved.left;
-        b = moved.right;
-        k += 1;
     }
-    Answer {
-        code: 0,
-        side: 0,
-        step: k,
-        at: 0,
-        left: a,
-        right: b,
-    }
+    Ok(long)
 }

@@ -2,12 +2,13 @@
 ghost use Rattle.std.specs.Prelude.{◌≡◌};
 ghost use Rattle.step.specs.Answers.{step_refusal, answer_to, words_left};
 
-use crate::stepping::step_on;
+use crate::stepping::{TERM_SIZE, step_on};
 use lent::steps::Step;
 use typing::terms::type_term;
 use words::clear_from;
 
-// The answer: a code with its side, step and place, and the length of the term that is left.
+// The answer: a code with its side, step and place, and the length of the term that is left. Its numbers are those that document 01 and the C interface fix, so it is no enum, and not one
+// type with the answer of `run`, which has two lengths.
 #[derive(Clone, Copy)]
 pub struct Answer {
     pub code: usize,
@@ -35,6 +36,7 @@ pub fn take_step(ds: &[u16], ws: &mut [u16], n: usize, s: Step) -> Answer
     ensures { (result ≡ answer_to ds.now ws.old n s) × (ws.new ≡ words_left ds.now ws.old n s) }
 {
     let typing = type_term(ds, ws, n);
+    // two returns: with one for both, `returns-then-typing-ne0` stays open, since what was cleared is not told where the two ways join
     if typing.code == 1 {
         return refused_with(typing.code, typing.at);
     }
@@ -43,14 +45,21 @@ pub fn take_step(ds: &[u16], ws: &mut [u16], n: usize, s: Step) -> Answer
         return refused_with(typing.code, typing.at);
     }
     clear_from(ws, n);
-    let mut out = [0u16; 4096];
-    let taken = step_on(ds, ws, n, s, &mut out);
-    let at = if taken.code == 0 { 0 } else { s.place as usize };
-    Answer {
-        code: taken.code,
-        side: 0,
-        step: 1,
-        at,
-        length: taken.length,
+    let mut out = [0u16; TERM_SIZE];
+    match step_on(ds, ws, n, s, &mut out) {
+        Ok(length) => Answer {
+            code: 0,
+            side: 0,
+            step: 1,
+            at: 0,
+            length,
+        },
+        Err(refusal) => Answer {
+            code: refusal.code(),
+            side: 0,
+            step: 1,
+            at: s.place as usize,
+            length: n,
+        },
     }
 }

@@ -9,32 +9,29 @@ ghost use Rattle.typing.specs.Answers.{typing_of};
 ghost use Rattle.rules.specs.Steps.{limited, step_of};
 ghost use Rattle.lent.specs.Lent.{asked};
 ghost use Rattle.step.specs.Answers.{held, between, step_in};
-ghost use Rattle.step.specs.Code.Making.{Termed, Seated, Fresh, Made};
+ghost use Rattle.step.specs.Code.Making.{Termed, Seated, Fresh, code_in, length_in, Made};
 
 use crate::rewriting::rewrite_part;
-use families::writing::{Replaced, Rewritten, TOO_BIG};
+use families::writing::{Refusal, Replaced};
 use lent::steps::Step;
-use rulebook::row_of;
+use rulebook::{Family, row_of};
 use term::parts::{level_at, part_at};
 use words::{append, clear_from};
 
-// What a step comes to: its code, and the length of the term that is left.
-#[derive(Clone, Copy)]
-pub struct Taken {
-    pub code: usize,
-    pub length: usize,
-}
+// The words of a term's slice, used or not, and of the scratch slice in which a result is made.
+pub const TERM_SIZE: usize = 4096;
 
-// Whether a part would pass 64 at a place. Where its rule may leave a part deeper, `old` is the depth of what stands there now. The depth of a part takes a walk over it, and the
+// Whether a part would pass 64 at a place. `old`, where its rule may leave a part deeper, is the depth of what stands there now. The depth of a part takes a walk over it, and the
 // level of a place one back over all that stands before it, so they are asked for only where they decide: a part is no deeper than it has words, a place no more levels down than
 // words stand before it, and what is there now is not too deep.
-fn is_too_deep(term: &[u16], place: usize, deepens: bool, old: usize, part: &[u16]) -> bool
-    requires { Seated term.now place deepens old part.now × (place ≤ 4096) × (length part.now ≤ 4096) }
+fn is_too_deep(term: &[u16], place: usize, old: Option<usize>, part: &[u16]) -> bool
+    requires { Seated term.now place old part.now × (place ≤ 4096) × (length part.now ≤ 4096) }
     ensures { result ≡ ltb 64 (level_at term.now place + part_depth part.now 0) }
 {
-    if !deepens {
+    let Some(old) = old else {
         return false;
-    }
+    };
+    // four tests one by one: with `||` a return is told by one of two facts, and `returns-then-place-part-le64` stays open
     if place + part.len() <= 64 {
         return false;
     }
@@ -42,7 +39,7 @@ fn is_too_deep(term: &[u16], place: usize, deepens: bool, old: usize, part: &[u1
         return false;
     }
     let mut deep = 0;
-    let whole = part_at(part, 0, &mut deep);
+    part_at(part, 0, &mut deep);
     if place + deep <= 64 {
         return false;
     }
@@ -53,43 +50,44 @@ fn is_too_deep(term: &[u16], place: usize, deepens: bool, old: usize, part: &[u1
 }
 
 // The limits of the whole result, and the words behind the part. A part's new words stand in the front of `out`.
-fn finish(term: &[u16], place: usize, made: Replaced, out: &mut [u16]) -> Rewritten
+fn finish(
+    term: &[u16],
+    place: usize,
+    made: Replaced,
+    out: &mut [u16; TERM_SIZE],
+) -> Result<usize, Refusal>
     requires { Fresh term.now place made out.old }
     ensures { (f : Fresh term.now place made out.old) → Made f.tree (limited f.tree (replace f.tree place f.result)) place out.new result }
 {
-    let new = made.written.end;
-    if 4096 < new {
-        return TOO_BIG;
+    let new = made.end;
+    if TERM_SIZE < new {
+        return Err(Refusal::TooBig);
     }
-    if is_too_deep(term, place, made.deepens, made.depth, &out[..new]) {
-        return TOO_BIG;
+    if is_too_deep(term, place, made.depth, &out[..new]) {
+        return Err(Refusal::TooBig);
     }
     let end = place + made.size;
     let done = append(out, new, &term[end..]);
-    if 4096 - place < done {
-        return TOO_BIG;
+    if TERM_SIZE - place < done {
+        return Err(Refusal::TooBig);
     }
-    Rewritten { code: 0, end: done }
+    Ok(done)
 }
 
-// Tests 20 to 23 in their order, and the words of the result from the place on.
-pub fn make(ds: &[u16], term: &[u16], s: Step, out: &mut [u16]) -> Rewritten
-    requires { Termed ds.now term.now × (length out.old ≡ 4096) }
+// The four refusals in their order, and the words of the result from the place on.
+pub fn make(ds: &[u16], term: &[u16], s: Step, out: &mut [u16; TERM_SIZE]) -> Result<usize, Refusal>
+    requires { Termed ds.now term.now }
     ensures { (x : Termed ds.now term.now) → Made x.tree (step_of (context_in ds.now) x.tree (asked s)) s.place out.new result }
 {
     let row = row_of(s.rule as usize);
-    if row.family == 0 {
-        return Rewritten { code: 20, end: 0 };
+    if let Family::NoRule = row.family {
+        return Err(Refusal::NoRule);
     }
     let place = s.place as usize;
     if term.len() <= place {
-        return Rewritten { code: 21, end: 0 };
+        return Err(Refusal::NoPart);
     }
-    let made = rewrite_part(ds, term, s, row, out);
-    let written = made.written;
-    if written.code != 0 {
-        return written;
-    }
+    let made = rewrite_part(ds, term, s, row, out)?;
     finish(term, place, made, out)
 }
 
@@ -111,25 +109,21 @@ fn put(ws: &mut [u16], place: usize, src: &[u16], old: usize)
     append(ws, place, src);
 }
 
-// One step of the typed term in the first `n` words, which have zeros behind.
-pub fn step_on(ds: &[u16], ws: &mut [u16], n: usize, s: Step, out: &mut [u16]) -> Taken
-    requires { ((typing_of ds.now ws.old n).code ≡ 0) × (cleared ws.old n ≡ ws.old) × (length out.old ≡ 4096) }
-    ensures { (result.code ≡ (step_in ds.now ws.old n s).code)
-        × (result.length ≡ length (words (step_in ds.now ws.old n s).tree))
-        × (ws.new ≡ held (step_in ds.now ws.old n s).tree) × (length out.new ≡ 4096) }
+// One step of the typed term in the first `n` words, which have zeros behind: the length of the term that is left, or why the step is refused, which leaves the term and its length.
+pub fn step_on(
+    ds: &[u16],
+    ws: &mut [u16],
+    n: usize,
+    s: Step,
+    out: &mut [u16; TERM_SIZE],
+) -> Result<usize, Refusal>
+    requires { ((typing_of ds.now ws.old n).code ≡ 0) × (cleared ws.old n ≡ ws.old) }
+    ensures { (code_in result ≡ (step_in ds.now ws.old n s).code)
+        × (length_in n result ≡ length (words (step_in ds.now ws.old n s).tree))
+        × (ws.new ≡ held (step_in ds.now ws.old n s).tree) }
 {
-    let result = make(ds, &ws[..n], s, out);
-    if result.code != 0 {
-        return Taken {
-            code: result.code,
-            length: n,
-        };
-    }
+    let end = make(ds, &ws[..n], s, out)?;
     let place = s.place as usize;
-    let end = result.end;
     put(ws, place, &out[..end], n);
-    Taken {
-        code: 0,
-        length: place + end,
-    }
+    Ok(place + end)
 }

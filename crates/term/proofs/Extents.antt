@@ -4,10 +4,11 @@ use mathlib.Core.Logic.{◌≢◌}
 use mathlib.Core.List.{List, [], ◌∷◌, ◌++◌, append_assoc, append-nil}
 use Prim.Native.Nat.{ℕ, zero, suc, ◌+◌, ◌-◌, ◌≤◌, ◌<◌, max}
 use native.Mathlib.Numerals.{add-one}
+use native.Mathlib.Decide.{dec_lt}
 use native.Mathlib.Omega.{arith}
 use lib.ListN.{length, drop, get_or, set, length-append, length-set, drop_of_length-le}
 use lib.Seq.{drop-cons, drop-append_seam, get_or-set_same, get_or-set_other}
-use Rattle.term.specs.declared.heads.Arity.TheVariants.{Unknown, Children}
+use Rattle.std.specs.Prelude.{Some, None}
 use Rattle.term.specs.Heads.{Label, read, arity_of}
 use Rattle.term.specs.Trees.{Tree, Forest, node, none, ◌▹◌, ◌⧺◌, words, words*, Formed, Formed*, depth, depth*}
 use Rattle.term.specs.Parts.{Cut, short, cut, behind, chop, plant, grow, parse, first, first_depth, part, part_depth}
@@ -96,11 +97,11 @@ module _ (ws : List ℕ) (at i : ℕ) (h : i < length ws) where
   unfolding parse
   parse-at = rw (add-one, drop-cons ws i 0 h)
 
-  pub reach_unknown : (d p : ℕ) (ps : List ℕ) → arity_of (get_or ws i 0) ≡ Unknown → reach at i d (suc p ∷ ps) (parse (drop i ws)) ≡ missed at
+  pub reach_unknown : (d p : ℕ) (ps : List ℕ) → arity_of (get_or ws i 0) ≡ None → reach at i d (suc p ∷ ps) (parse (drop i ws)) ≡ missed at
   unfolding grow
   reach_unknown d p ps e = rw (parse-at, read-unknown _ e) (reach_stopped at i d p ps)
 
-  pub reach_more : (d p n : ℕ) (ps : List ℕ) → arity_of (get_or ws i 0) ≡ Children n
+  pub reach_more : (d p n : ℕ) (ps : List ℕ) → arity_of (get_or ws i 0) ≡ Some n
       → reach at i d (suc p ∷ ps) (parse (drop i ws)) ≡ reach at (i + 1) (max d (length ps + 1)) (n ∷ p ∷ ps) (parse (drop (i + 1) ws))
   unfolding grow reach
   reach_more d p n ps e =
@@ -165,14 +166,17 @@ module _ {ws : List ℕ} {at : ℕ} {outer : List ℕ} where
     rest_more : reach at i d (suc (left - 1) ∷ pend outer level) (parse (drop i ws)) ≡ asked ws at
     rest_more = let z : left ≡ suc (left - 1) = omega arith in rw z at w.rest
 
-    pub walked-past : length ws ≤ i → Told ws at at 0
+    walked-past : length ws ≤ i → Told ws at at 0
     unfolding parse
     walked-past h = told_by ws at at 0 (sym (rw (drop_of_length-le ws h) (reach_stopped at i d (left - 1) (pend outer level))) ∙ rest_more)
 
-    pub walked-unknown : i < length ws → arity_of (get_or ws i 0) ≡ Unknown → Told ws at at 0
+    walked-unknown : i < length ws → arity_of (get_or ws i 0) ≡ None → Told ws at at 0
     walked-unknown h e = told_by ws at at 0 (sym (reach_unknown ws at i h d (left - 1) (pend outer level) e) ∙ rest_more)
 
-    module _ (inside : i < length ws) (n : ℕ) (e : arity_of (get_or ws i 0) ≡ Children n) where
+    pub walked_missing : arity_of (get_or ws i 0) ≡ None → Told ws at at 0
+    walked_missing e = elim (dec_lt i (length ws)) [ yes h ↦ walked-unknown h e | no h ↦ walked-past (omega arith) ]
+
+    module _ (inside : i < length ws) (n : ℕ) (e : arity_of (get_or ws i 0) ≡ Some n) where
       pub rest_read : reach at (i + 1) (max d (level + 1)) (n ∷ (left - 1) ∷ pend outer level) (parse (drop (i + 1) ws)) ≡ asked ws at
       rest_read = rw (pend_length outer level) at (sym (reach_more ws at i inside d (left - 1) n (pend outer level) e) ∙ rest_more)
 

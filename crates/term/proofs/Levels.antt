@@ -1,15 +1,15 @@
 -- The level of a place, as the code finds it: one word after the other, from the place back to the start; and the depth of a part from the levels of its words.
 use mathlib.Core.Path.{◌≡◌, refl, sym, ◌∙◌, ap}
 use mathlib.Core.Bool.{Bool, true, false, cond}
-use mathlib.Core.List.{List, [], ◌∷◌}
+use mathlib.Core.List.{List, [], ◌∷◌, ◌++◌, reverse}
 use Prim.Native.Nat.{ℕ, zero, suc, ◌+◌, ◌-◌, ◌≤◌, ◌<◌, max}
 use native.Mathlib.Numerals.{add-one}
 use native.Mathlib.Omega.{arith}
 use borrow.Author.Tests.{lt-ltb, le-ltb}
 use lib.Dec.{ltb}
-use lib.ListN.{length, take, drop, get_or, length-take, length-append, drop_of_length-le}
-use lib.Seq.{drop-cons, get_or-take}
-use Rattle.term.specs.declared.heads.Arity.TheVariants.{Unknown, Children}
+use lib.ListN.{length, take, drop, length-take, length-append}
+use Rattle.std.proofs.lemmas.List.{reverse-append, reverse-reverse}
+use Rattle.std.specs.Prelude.{Some, None}
 use Rattle.term.specs.Heads.{Label, Reading, unread, labelled, arity_of, read}
 use Rattle.term.specs.Trees.{Tree, Forest, node, none, ◌▹◌, words, words*, Formed, Formed*, depth, depth*, level, level*}
 use Rattle.term.specs.Parts.{parse, first, first_depth, part, part_depth}
@@ -38,49 +38,44 @@ pub level-few : (ws : List ℕ) (at : ℕ) → level_at ws at ≤ length ws
 unfolding level_at
 level-few ws at = omega (arith, above-few (take at ws), length-take at ws)
 
--- what is known of the words from i up to the place
-pub record Back (ws : List ℕ) (at i level parts : ℕ) : Type 0 where
-  pub inside : i ≤ length (take at ws)
-  pub few : level + i ≤ length ws
-  pub some : parts + i ≤ length ws
-  pub is : above (drop i (take at ws)) ≡ record { level = level; parts = parts }
+-- what is known of the words before the place that a walk back has seen, the last of them first
+pub record Back (seen : List ℕ) (level parts : ℕ) : Type 0 where
+  pub few : level ≤ length seen
+  pub some : parts ≤ length seen
+  pub is : above (reverse seen) ≡ record { level = level; parts = parts }
 
-module _ (ws : List ℕ) (at : ℕ) where
-  pub back-begin : (i : ℕ) → i ≡ length (take at ws) → Back ws at i 0 0
+pub back-begin : Back [] 0 0
+unfolding above
+back-begin = record { few = omega arith; some = omega arith; is = refl }
+
+module _ {seen : List ℕ} {level parts : ℕ} (b : Back seen level parts) (w : ℕ) where
+  next : above (reverse (seen ++ w ∷ [])) ≡ under (read w) (record { level = level; parts = parts })
   unfolding above
-  back-begin i e =
-      let k : length (take at ws) ≤ i = omega arith in
-      record { inside = omega arith; few = omega (arith, length-take at ws); some = omega (arith, length-take at ws); is = rw (drop_of_length-le (take at ws) k) }
+  next = rw (reverse-append seen (w ∷ []), b.is)
 
-  pub back_end : (i level parts : ℕ) → Back ws at i level parts → i ≡ 0 → level ≡ level_at ws at
-  unfolding level_at
-  back_end i level parts b e = ap (λ (a : Above). a.level) (rw e at (sym b.is))
+  pub back_below : (n : ℕ) → arity_of w ≡ Some n → parts < n → Back (seen ++ w ∷ []) (level + 1) 0
+  unfolding under
+  back_below n e h =
+      let r = read_children w n e in
+      let l = length-append seen (w ∷ []) in
+      record { few = omega (arith, b.few, l); some = omega arith; is = next ∙ rw (r.1, lt-ltb parts n h, add-one) }
 
-  module _ (i level parts : ℕ) (b : Back ws at i level parts) (more : 0 < i) where
-    next : above (drop (i - 1) (take at ws)) ≡ under (read (get_or ws (i - 1) 0)) (record { level = level; parts = parts })
-    unfolding above
-    next =
-        let z : i ≡ suc (i - 1) = omega arith in
-        let k : i - 1 < at = omega (arith, b.inside, length-take at ws) in
-        let e : above (drop (suc (i - 1)) (take at ws)) ≡ record { level = level; parts = parts } = rw z at b.is in
-        rw (drop-cons (take at ws) (i - 1) 0 (omega (arith, b.inside)), get_or-take at ws (i - 1) 0 k, e)
+  pub back_whole : (n : ℕ) → arity_of w ≡ Some n → n ≤ parts → Back (seen ++ w ∷ []) level (parts - n + 1)
+  unfolding under
+  back_whole n e h =
+      let r = read_children w n e in
+      let l = length-append seen (w ∷ []) in
+      record { few = omega (arith, b.few, l); some = omega (arith, b.some, l); is = next ∙ rw (r.1, le-ltb parts n h) }
 
-    pub back_below : (n : ℕ) → arity_of (get_or ws (i - 1) 0) ≡ Children n → parts < n → Back ws at (i - 1) (level + 1) 0
-    unfolding under
-    back_below n e h =
-        let r = read_children (get_or ws (i - 1) 0) n e in
-        record { inside = omega (arith, b.inside); few = omega (arith, b.few); some = omega (arith, b.few); is = next ∙ rw (r.1, lt-ltb parts n h, add-one) }
+  pub back-unknown : arity_of w ≡ None → Back (seen ++ w ∷ []) level parts
+  unfolding under
+  back-unknown e =
+      let l = length-append seen (w ∷ []) in
+      record { few = omega (arith, b.few, l); some = omega (arith, b.some, l); is = next ∙ rw (read-unknown w e) }
 
-    pub back_whole : (n : ℕ) → arity_of (get_or ws (i - 1) 0) ≡ Children n → n ≤ parts → Back ws at (i - 1) level (parts - n + 1)
-    unfolding under
-    back_whole n e h =
-        let r = read_children (get_or ws (i - 1) 0) n e in
-        record { inside = omega (arith, b.inside); few = omega (arith, b.few); some = omega (arith, b.some); is = next ∙ rw (r.1, le-ltb parts n h) }
-
-    pub back-unknown : arity_of (get_or ws (i - 1) 0) ≡ Unknown → Back ws at (i - 1) level parts
-    unfolding under
-    back-unknown e =
-        record { inside = omega (arith, b.inside); few = omega (arith, b.few); some = omega (arith, b.some); is = next ∙ rw (read-unknown (get_or ws (i - 1) 0) e) }
+pub back_end : (ws : List ℕ) (at : ℕ) {level parts : ℕ} → Back (reverse (take at ws)) level parts → level ≡ level_at ws at
+unfolding level_at
+back_end ws at b = ap (λ (a : Above). a.level) (rw (reverse-reverse (take at ws)) at (sym b.is))
 
 -- ---- the depth of a part is the greatest level of its words, and one more
 greatest : ℕ → (ℕ → ℕ) → ℕ

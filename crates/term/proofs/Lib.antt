@@ -5,6 +5,7 @@ pub mod Parsing
 pub mod Scan
 pub mod Extents
 mod Rows
+mod Passed
 pub mod TermTest
 pub mod Comparing
 pub mod Places

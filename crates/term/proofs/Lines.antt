@@ -4,13 +4,12 @@ use mathlib.Core.Bool.{true, cond}
 use mathlib.Core.Logic.{◌≢◌}
 use Prim.Native.Nat.{ℕ, zero, suc, ◌+◌, ◌-◌, ◌*◌, ◌/◌, ◌%◌, ◌^◌, ◌≤◌, ◌<◌}
 use native.Mathlib.Omega.{arith}
-use borrow.Author.Tests.{eq-eqb, eqb-true}
+use borrow.Author.Tests.{eqb-true}
 use lib.Dec.{T, eqb, leb→le, eqb-suc-zero}
 use lib.ListN.{length, get_or, get_or-eq_default}
 use Rattle.words.specs.Listed.{all_up_to}
 use Rattle.words.proofs.Listed.{all_up_to-at}
-use Rattle.term.specs.declared.heads.Arity.{Arity}
-use Rattle.term.specs.declared.heads.Arity.TheVariants.{Unknown, Children}
+use Rattle.std.specs.Prelude.{Option, Some, None}
 use Rattle.term.specs.declared.heads.Class.{Class}
 use Rattle.term.specs.declared.heads.Class.TheVariants.{Nothing, Index, Basis, Scalar, Ket, Bra, Operator, Array, Term}
 use Rattle.term.specs.Heads.{Head, unknown, named, fixed, counted, heads, reading, read, arity_in, arity_of, result_in, result_of, child_in, child_of}
@@ -69,11 +68,11 @@ pub form-at : (x from n : ℕ) → all_up_to n (λ k. eqb (x / 2 ^ (k * 4) % 16)
 form-at x from n e k h l z = rw (← z) (eqb-true _ _ (all_up_to-at n _ e k l))
 
 -- ---- what the functions answer
-abbrev pub arity_by : ℕ → ℕ → Arity
-arity_by zero a = Unknown
-arity_by (suc zero) a = Children 0
-arity_by (suc (suc zero)) a = cond (eqb a 0) Unknown (Children a)
-arity_by (suc (suc (suc n))) a = cond (eqb a 0) (Children n) Unknown
+abbrev pub arity_by : ℕ → ℕ → Option ℕ
+arity_by zero a = None
+arity_by (suc zero) a = Some 0
+arity_by (suc (suc zero)) a = cond (eqb a 0) None (Some a)
+arity_by (suc (suc (suc n))) a = cond (eqb a 0) (Some n) None
 
 arity_by_lem : (h : Head) (a : ℕ) → arity_in (reading h a) ≡ arity_by (form_of h) a
 unfolding arity_in reading form_of
@@ -90,18 +89,11 @@ arity_form w r f e k =
     let h = get_or heads (w / 256) unknown in
     arity_by_lem h (w % 256) ∙ ap (λ x. arity_by x (w % 256)) (sym (digits h).form ∙ sym e ∙ k)
 
-pub arity_fixed : (f a : ℕ) → 3 ≤ f → arity_by f a ≡ cond (eqb a 0) (Children (f - 3)) Unknown
+pub arity_fixed : (f a : ℕ) → 3 ≤ f → arity_by f a ≡ cond (eqb a 0) (Some (f - 3)) None
 arity_fixed zero a h = absurd (omega arith)
 arity_fixed (suc zero) a h = absurd (omega arith)
 arity_fixed (suc (suc zero)) a h = absurd (omega arith)
 arity_fixed (suc (suc (suc n))) a h = let e : suc (suc (suc n)) - 3 ≡ n = omega arith in rw e
-
--- a low byte of 0 is no number of children, and what a head of a fixed number has
-pub counted_none : (w : ℕ) → line_at (w / 256) / 4096 ≡ 2 → w % 256 ≡ 0 → arity_of w ≡ Unknown
-counted_none w f z = arity_form w _ 2 refl f ∙ rw (eq-eqb (w % 256) 0 z)
-
-pub fixed_none : (w : ℕ) → 3 ≤ line_at (w / 256) / 4096 → w % 256 ≡ 0 → arity_of w ≡ Children (line_at (w / 256) / 4096 - 3)
-fixed_none w f z = arity_form w _ _ refl refl ∙ arity_fixed _ _ f ∙ rw (eq-eqb (w % 256) 0 z)
 
 pub result-line : (h r : ℕ) → r ≡ line_at h → class_of (r / 256 % 16) ≡ result_of h
 unfolding result_of line_at

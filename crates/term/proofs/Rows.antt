@@ -9,8 +9,9 @@ use native.Mathlib.Omega.{arith}
 use borrow.Author.Count.{below_more}
 use borrow.Author.Tests.{eqb-true, ne_eqb}
 use lib.Dec.{eqb}
-use lib.ListN.{length, drop, get_or, get_or-append}
-use Rattle.term.specs.declared.heads.Arity.TheVariants.{Children}
+use lib.ListN.{length, take, drop, get_or, get_or-append, length-take, length-drop}
+use Rattle.std.proofs.lemmas.List.{get_or-take, get_or-drop}
+use Rattle.std.specs.Prelude.{Some}
 use Rattle.term.specs.Heads.{reading, read, arity_in, arity_of, heads}
 use Rattle.term.specs.Parts.{chop, parse}
 use Rattle.term.specs.Code.Rows.{Leaves}
@@ -18,21 +19,30 @@ use Rattle.term.proofs.Scan.{end_by, end_more}
 use Rattle.term.proofs.Extents.{reach, reach_closed, reach_more, pend, pend_length, Walked, rest_read}
 
 -- a variable is a leaf
-variable_leaf : (w : ℕ) → w / 256 ≡ 26 → arity_of w ≡ Children 0
+variable_leaf : (w : ℕ) → w / 256 ≡ 26 → arity_of w ≡ Some 0
 unfolding arity_of arity_in read reading heads
 variable_leaf w e = rw e
 
 -- one more of a row that is looked at
-pub leaves-more : (ws : List ℕ) (at k : ℕ) {before all : Bool} → (before ≡ true → Leaves ws at k) → all ≡ (eqb (get_or ws (at + k) 0 / 256) 26 && before) → all ≡ true → Leaves ws at (k + 1)
-leaves-more ws at k h e z =
-    let both = (and-eq-true_iff (eqb (get_or ws (at + k) 0 / 256) 26) _).0 (sym e ∙ z) in
-    below_more _ _ (h both.1) (variable_leaf _ (eqb-true _ _ both.0))
+pub leaves-more : (ws : List ℕ) (k : ℕ) {before : Bool} → (before ≡ true → Leaves ws 0 k) → (before && eqb (get_or ws k 0 / 256) 26) ≡ true → Leaves ws 0 (k + 1)
+leaves-more ws k {before} h e =
+    let both = (and-eq-true_iff before _).0 e in
+    let z : 0 + k ≡ k = omega arith in
+    below_more _ _ (h both.0) (rw z (variable_leaf _ (eqb-true _ _ both.1)))
+
+-- a row that stands in the words
+pub leaves-within : (ws : List ℕ) (at n : ℕ) → at + n ≤ length ws → (row : List ℕ) → row ≡ take n (drop at ws) → Leaves row 0 (length row) → Leaves ws at n
+leaves-within ws at n h row e l j k =
+    let size : n ≤ length row = rw (e, length-take, length-drop) (omega arith) in
+    let z : 0 + j ≡ j = omega arith in
+    let item : get_or row j 0 ≡ get_or ws (at + j) 0 = rw e (get_or-take n (drop at ws) j 0 k ∙ get_or-drop at ws j 0) in
+    rw (z, item) at (l j (omega arith))
 
 -- the row without its first
 leaves_later : (ws : List ℕ) (at k : ℕ) → Leaves ws at (suc k) → Leaves ws (at + 1) k
 leaves_later ws at k h j l = let z : at + 1 + j ≡ at + suc j = omega arith in rw z (h (suc j) (omega arith))
 
-leaf_first : (ws : List ℕ) (at k : ℕ) → Leaves ws at (suc k) → arity_of (get_or ws at 0) ≡ Children 0
+leaf_first : (ws : List ℕ) (at k : ℕ) → Leaves ws at (suc k) → arity_of (get_or ws at 0) ≡ Some 0
 leaf_first ws at k h = let z : at + 0 ≡ at = omega arith in rw z at (h 0 (omega arith))
 
 -- ---- two slices, one behind the other
@@ -102,7 +112,7 @@ over_depth (suc n) d level = rw (ne_eqb (suc n) 0 (omega arith)) (omega arith)
 
 -- a head over a row of leaves, or a leaf itself
 pub walked_over : {ws : List ℕ} {at : ℕ} {outer : List ℕ} {left level d i : ℕ} → Walked ws at outer left level d i → left ≢ 0 → (n : ℕ) → i < length ws → i + 1 + n ≤ length ws
-    → arity_of (get_or ws i 0) ≡ Children n → Leaves ws (i + 1) n → Walked ws at outer (left - 1) level (max d (level + cond (eqb n 0) 1 2)) (i + 1 + n)
+    → arity_of (get_or ws i 0) ≡ Some n → Leaves ws (i + 1) n → Walked ws at outer (left - 1) level (max d (level + cond (eqb n 0) 1 2)) (i + 1 + n)
 walked_over {ws} {at} {outer} {left} {level} {d} {i} w more n inside room e f =
     let r = rest_read w more inside n e in
     let p = reach_leaves ws at (i + 1) (max d (level + 1)) n ((left - 1) ∷ pend outer level) (omega (arith, pend_length outer level)) room f in

@@ -1,39 +1,51 @@
 -- Finding the end of a part by counting the parts still to come.
-use mathlib.Core.Path.{◌≡◌, refl, ◌∙◌, ap}
+use mathlib.Core.Path.{◌≡◌, refl, sym, ◌∙◌, ap}
 use mathlib.Core.List.{List, [], ◌++◌, append-nil, append_assoc}
 use Prim.Native.Nat.{ℕ, zero, suc, ◌+◌, ◌-◌, ◌≤◌, ◌<◌}
 use native.Mathlib.Numerals.{add-one}
+use native.Mathlib.Decide.{dec_lt}
 use native.Mathlib.Omega.{arith}
-use lib.ListN.{length, take, drop, get_or, length-append, length-drop, drop_of_length-le}
+use lib.ListN.{length, take, drop, get_or, length-append, length-drop, drop_of_length-le, get_or-eq_default}
 use lib.Seq.{drop-cons, take-append_seam}
-use Rattle.term.specs.declared.heads.Arity.TheVariants.{Unknown, Children}
-use Rattle.term.specs.Heads.{Label, Reading, unread, labelled, read, arity_in, arity_of}
+use Rattle.std.specs.Prelude.{Some, None}
+use Rattle.term.specs.Heads.{Label, Reading, unread, labelled, reading, read, heads, arity_in, arity_of}
 use Rattle.term.specs.Trees.{Tree, Forest, node, none, ◌▹◌, count, ◌⧺◌, words, words*, Formed, Formed*}
 use Rattle.term.specs.Parts.{Cut, short, cut, behind, chop, Whole, parse, first, part, start}
 use Rattle.term.proofs.Readings.{read-few}
 use Rattle.term.proofs.Parsing.{accepted, Chopped, too_few, taken, chopped, Grown, unread-word, words-short, planted, grown, words*-⧺, count-⧺, parse-words}
 
 -- ---- what the answer about a word's children says of the word
-children_of_lem : (r : Reading) (n : ℕ) → arity_in r ≡ Children n → (l : Label) × (r ≡ labelled l n)
+children_of_lem : (r : Reading) (n : ℕ) → arity_in r ≡ Some n → (l : Label) × (r ≡ labelled l n)
 unfolding arity_in
 children_of_lem unread n e = absurd (let z : ◌≡◌ {A = ℕ} 0 1 = cc in omega arith)
 children_of_lem (labelled l k) n e = (l, cc)
 
-pub read_children : (w n : ℕ) → arity_of w ≡ Children n → (l : Label) × (read w ≡ labelled l n)
+pub read_children : (w n : ℕ) → arity_of w ≡ Some n → (l : Label) × (read w ≡ labelled l n)
 unfolding arity_of
 read_children w n e = children_of_lem (read w) n e
 
-unknown_of : (r : Reading) → arity_in r ≡ Unknown → r ≡ unread
+unknown_of : (r : Reading) → arity_in r ≡ None → r ≡ unread
 unfolding arity_in
 unknown_of unread e = refl
 unknown_of (labelled l k) e = cc
 
-pub read-unknown : (w : ℕ) → arity_of w ≡ Unknown → read w ≡ unread
+pub read-unknown : (w : ℕ) → arity_of w ≡ None → read w ≡ unread
 unfolding arity_of
 read-unknown w e = unknown_of (read w) e
 
-pub children_few : (w n : ℕ) → arity_of w ≡ Children n → n ≤ 255
+pub children_few : (w n : ℕ) → arity_of w ≡ Some n → n ≤ 255
 children_few w n e = let r = read_children w n e in read-few w r.0 n r.1
+
+-- past the words there is no head
+none-0 : arity_of 0 ≡ None
+unfolding arity_of arity_in read reading heads
+none-0 = refl
+
+pub arity_past : (ws : List ℕ) (i : ℕ) → length ws ≤ i → arity_of (get_or ws i 0) ≡ None
+arity_past ws i h = rw (get_or-eq_default ws 0 h) none-0
+
+pub arity_inside : (ws : List ℕ) (i n : ℕ) → arity_of (get_or ws i 0) ≡ Some n → i < length ws
+arity_inside ws i n e = elim (dec_lt i (length ws)) [ yes h ↦ h | no h ↦ absurd (let z : None ≡ Some n = sym (arity_past ws i (omega arith)) ∙ e in let y : ◌≡◌ {A = ℕ} 0 1 = cc in omega arith) ]
 
 -- ---- chopping
 chop_short_by : {n : ℕ} {f : Forest} {c : Cut} → count f < n → Chopped n f c → c ≡ short
@@ -105,7 +117,7 @@ end_grown {k} m at i e (planted l a b h p) =
     let z : k ≡ count a = cc in
     rw (p, z, chop-add a b m) (end_planted l a at i (chop m b))
 
-pub end_more : (ws : List ℕ) (at i need n : ℕ) → i < length ws → 0 < need → arity_of (get_or ws i 0) ≡ Children n
+pub end_more : (ws : List ℕ) (at i need n : ℕ) → i < length ws → 0 < need → arity_of (get_or ws i 0) ≡ Some n
     → end_by at i (chop need (parse (drop i ws))) ≡ end_by at (i + 1) (chop (need - 1 + n) (parse (drop (i + 1) ws)))
 end_more ws at i zero n h z e = absurd (omega arith)
 end_more ws at i (suc m) n h z e =
@@ -119,7 +131,7 @@ end-unread m at i e (unread-word h) = refl
 end-unread m at i e (words-short l n h c) = refl
 end-unread m at i e (planted l a b h p) = cc
 
-pub end-unknown : (ws : List ℕ) (at i need : ℕ) → i < length ws → 0 < need → arity_of (get_or ws i 0) ≡ Unknown
+pub end-unknown : (ws : List ℕ) (at i need : ℕ) → i < length ws → 0 < need → arity_of (get_or ws i 0) ≡ None
     → end_by at i (chop need (parse (drop i ws))) ≡ at
 end-unknown ws at i zero h z e = absurd (omega arith)
 end-unknown ws at i (suc m) h z e =

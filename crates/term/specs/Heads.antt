@@ -1,6 +1,5 @@
 -- The table of heads, and what a single word says.
-use Rattle.std.specs.Prelude.{cond, List, [], ◌∷◌, ℕ, ◌+◌, ◌*◌, ◌/◌, ◌%◌, eqb, length, get_or}
-use Rattle.term.specs.declared.heads.Arity.{Arity}
+use Rattle.std.specs.Prelude.{cond, List, [], ◌∷◌, ℕ, ◌+◌, ◌*◌, ◌/◌, ◌%◌, eqb, length, get_or, Option, Some, None}
 use Rattle.term.specs.declared.heads.Class.{Class}
 use Rattle.term.specs.declared.heads.Class.TheVariants.{Nothing, Index, Basis, Scalar, Ket, Bra, Operator, Array, Term}
 
@@ -108,11 +107,11 @@ unfolding reading heads
 read w = reading (get_or heads (w / 256) unknown) (w % 256)
 
 -- how many children a word wants, as the code answers it
-unfoldable pub arity_in : Reading → Arity
-arity_in unread = Arity.Unknown
-arity_in (labelled l n) = Arity.Children n
+unfoldable pub arity_in : Reading → Option ℕ
+arity_in unread = None
+arity_in (labelled l n) = Some n
 
-unfoldable pub arity_of : ℕ → Arity
+unfoldable pub arity_of : ℕ → Option ℕ
 unfolding arity_in
 arity_of w = arity_in (read w)
 

@@ -1,77 +1,53 @@
 // What a scan may pass at once. The long rows of a term are mostly sums and products of variables, and looking at many words at a time takes a tenth of the time that walking takes.
-ghost use Rattle.std.specs.Prelude.{◌≡◌, true, ◌&&◌, ◌++◌, ◌+◌, ◌/◌, ◌≤◌, eqb, length};
+ghost use Rattle.std.specs.Prelude.{◌≡◌, true, ◌++◌, ◌+◌, ◌≤◌, length};
 ghost use Rattle.term.specs.Code.Rows.{Leaves};
 
-// The head of a variable.
+// The head of a variable: its number, and no word as those of `heads` are, since any name may stand behind it.
 const VARIABLE: u16 = 26;
 
 // The shortest row that is looked at: a shorter one is sooner walked. Only heads that count their children have so many.
-pub(crate) const LONG_ROW: usize = 16;
+const LONG_ROW: usize = 16;
 
-// Whether a word is a variable, and those before it were too.
-fn still_variables(before: bool, word: u16) -> bool
-    ensures { result ≡ (eqb (word / 256) 26 && before) }
-{
-    if word / 256 == VARIABLE {
-        return before;
-    }
-    false
-}
-
-// Whether the `n` words from `at` on are variables. It looks at all of them, so that it is compiled to tests of many at a time.
-fn are_variables(ws: &[u16], at: usize, n: usize) -> bool
-    requires { at + n ≤ length ws.now }
-    ensures { result ≡ true → Leaves ws.now at n }
+// Whether all words are variables. It looks at every word and does not stop at the first other one, so that it is compiled to tests of many at a time.
+fn are_variables(row: &[u16]) -> bool
+    ensures { result ≡ true → Leaves row.now 0 (length row.now) }
 {
     let mut all = true;
-    let mut k = 0;
-    while k < n {
-        all = still_variables(all, ws[at + k]);
-        k += 1;
+    for &word in row {
+        all &= word / 256 == VARIABLE;
     }
     all
 }
 
-// How many words from `at` on are leaves that a scan may pass, behind a head with `n` children: all of these, where they are a row of variables, or none.
-pub(crate) fn leaves_ahead(ws: &[u16], at: usize, n: usize) -> usize
+// Whether the `n` words from `at` on, which stand behind a head with `n` children, are a row that a scan may pass.
+pub(crate) fn is_row(ws: &[u16], at: usize, n: usize) -> bool
     requires { at ≤ length ws.now }
-    ensures { (result ≤ n) × (at + result ≤ length ws.now) × Leaves ws.now at result }
+    ensures { result ≡ true → (at + n ≤ length ws.now) × Leaves ws.now at n }
 {
-    if n < LONG_ROW {
-        return 0;
+    if n < LONG_ROW || ws.len() - at < n {
+        return false;
     }
-    if ws.len() - at < n {
-        return 0;
-    }
-    if are_variables(ws, at, n) {
-        return n;
-    }
-    0
+    are_variables(&ws[at..at + n])
 }
 
-// The same of two slices, one behind the other. A row may begin in the first and end in the second.
-pub(crate) fn leaves_of_both(front: &[u16], back: &[u16], at: usize, n: usize) -> usize
+// The same of two slices, one behind the other, and of no words at all. A row may begin in the first and end in the second. `is_row` stays beside it: it answers for the slice that has the whole row,
+// and `part_end`, which has one slice, asks it alone.
+pub(crate) fn are_leaves(front: &[u16], back: &[u16], at: usize, n: usize) -> bool
     requires { at ≤ length front.now + length back.now }
-    ensures { (result ≤ n) × (at + result ≤ length front.now + length back.now) × Leaves (front.now ++ back.now) at result }
+    ensures { result ≡ true → (at + n ≤ length front.now + length back.now) × Leaves (front.now ++ back.now) at n }
 {
     if n < LONG_ROW {
-        return 0;
+        return n == 0;
     }
     if front.len() <= at {
-        return leaves_ahead(back, at - front.len(), n);
+        return is_row(back, at - front.len(), n);
     }
     let here = front.len() - at;
     if n <= here {
-        return leaves_ahead(front, at, n);
+        return is_row(front, at, n);
     }
     if back.len() < n - here {
-        return 0;
+        return false;
     }
-    if leaves_ahead(front, at, here) != here {
-        return 0;
-    }
-    if are_variables(back, 0, n - here) {
-        return n;
-    }
-    0
+    are_variables(&front[at..]) && are_variables(&back[..n - here])
 }

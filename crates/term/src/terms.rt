@@ -1,6 +1,5 @@
 // Declared names, and the test of a term.
-ghost use Rattle.std.specs.Prelude.{◌≡◌, cond};
-ghost use Rattle.words.specs.Listed.{all};
+ghost use Rattle.std.specs.Prelude.{◌≡◌};
 ghost use Rattle.term.specs.Terms.{known, declared, all_declared, index_word, all_index_words, is_term};
 
 use crate::heads::INDEX_PRODUCT;
@@ -14,103 +13,64 @@ pub struct Names {
     pub variables: usize,
 }
 
+#[tactic(auto, unfolding(crate::specs::Terms::known))]
 fn is_known(name: usize, count: usize) -> bool
     ensures { result ≡ known name count }
 {
     name < count && name < 32
 }
 
-// Whether the name in a word, if it has one, is declared.
+// Whether the name in a word, if it has one, is declared. The heads stand by their numbers, as the table and the paper write them.
+#[tactic(auto, unfolding(crate::specs::Terms::declared))]
 pub fn is_declared(names: Names, word: u16) -> bool
     ensures { result ≡ declared names word }
 {
-    let head = word / 256;
-    let name = (word % 256) as usize;
-    if head == 1 {
-        return is_known(name, names.types);
+    let name = usize::from(word % 256);
+    match word / 256 {
+        1 => is_known(name, names.types), // 1:a  type name
+        3 => is_known(name, names.bases), // 3:a  basis name
+        26 => is_known(name, names.variables), // 26:a variable
+        _ => true,
     }
-    if head == 3 {
-        return is_known(name, names.bases);
-    }
-    if head == 26 {
-        return is_known(name, names.variables);
-    }
-    true
 }
 
 // Whether a word may stand in an index over so many types: a type name, or a product's head.
+#[tactic(auto, unfolding(crate::specs::Terms::index_word))]
 pub fn is_index_word(types: usize, word: u16) -> bool
     ensures { result ≡ index_word types word }
 {
-    if word / 256 == 1 {
-        let name = (word % 256) as usize;
-        return name < types;
+    match word / 256 {
+        1 => usize::from(word % 256) < types, // 1:a  type name
+        _ => word == INDEX_PRODUCT,
     }
-    word == INDEX_PRODUCT
 }
 
-// Whether a word passes one of the two tests.
-fn passes(names: Names, index: bool, word: u16) -> bool
-    ensures { result ≡ cond index (index_word names.types) (declared names) word }
-{
-    if index {
-        return is_index_word(names.types, word);
-    }
-    is_declared(names, word)
-}
-
-fn all_pass(names: Names, index: bool, ws: &[u16]) -> bool
-    ensures { result ≡ all (cond index (index_word names.types) (declared names)) ws.now }
-{
-    let mut i = 0;
-    while i < ws.len() {
-        if !passes(names, index, ws[i]) {
-            return false;
-        }
-        i += 1;
-    }
-    true
-}
-
-// Whether the names in all words are declared.
+// Whether the names in all words are declared. This and `are_index_words` differ in their test alone, but one function over a test would be `ws.iter().all` itself.
 pub fn all_declared(names: Names, ws: &[u16]) -> bool
     ensures { result ≡ all_declared names ws.now }
 {
-    all_pass(names, false, ws)
+    ws.iter().all(|&word| is_declared(names, word))
 }
 
 // Whether all words may stand in an index over so many types.
 pub fn are_index_words(types: usize, ws: &[u16]) -> bool
     ensures { result ≡ all_index_words types ws.now }
 {
-    let names = Names {
-        types,
-        bases: 0,
-        variables: 0,
-    };
-    all_pass(names, true, ws)
+    ws.iter().all(|&word| is_index_word(types, word))
 }
 
 // Whether the first `n` words of `ws` are a term: one whole part to its end, within the limits and with declared names.
+// `n` stands beside the slice, since `n` words of fewer are refused here, and a caller need not show that it has so many: the reader hands its whole array.
 pub fn is_term(names: Names, ws: &[u16], n: usize) -> bool
     ensures { result ≡ is_term names ws.now n }
 {
-    if ws.len() < n {
-        return false;
-    }
-    if n == 0 {
-        return false;
-    }
-    if 4096 < n {
+    if ws.len() < n || n == 0 || 4096 < n {
         return false;
     }
     let term = &ws[..n];
     let mut depth = 0;
     let part = part_at(term, 0, &mut depth);
-    if part.len() != n {
-        return false;
-    }
-    if 64 < depth {
+    if part.len() != n || 64 < depth {
         return false;
     }
     all_declared(names, term)

@@ -8,6 +8,7 @@ use lib.Dec.{eqb}
 use lib.ListN.{length, take, drop, length-append}
 use lib.Seq.{take-append_seam, drop-append-add}
 use borrow.Author.Tests.{eqb-true, eqb-false, eq-eqb, ne_eqb, not-true}
+use Rattle.std.specs.Prelude.{Some, None}
 use Rattle.words.specs.Listed.{lacks, all}
 use Rattle.text.specs.Bytes.{line_feed, printable, bad_line, index_of}
 use Rattle.text.specs.Pieces.{Text, push, pieces, parted, lines_of, ended}
@@ -158,33 +159,28 @@ ended-push x [] h = absurd (omega arith)
 ended-push x (l ∷ ls) h = refl
 
 -- bytes without a fault have none behind the first
-bad_more : (n : ℕ) (f : Bool) (x : ℕ) (xs : Text) → bad_line n f (x ∷ xs) ≡ 0 → 0 < n → bad_line (cond (eqb x line_feed) (n + 1) n) (eqb x line_feed) xs ≡ 0
+bad_more : (n : ℕ) (f : Bool) (x : ℕ) (xs : Text) → bad_line n f (x ∷ xs) ≡ None → bad_line (cond (eqb x line_feed) (n + 1) n) (eqb x line_feed) xs ≡ None
 unfolding bad_line
-bad_more n f x xs h p = go (eqb x line_feed) (printable x) h
+bad_more n f x xs h = go (eqb x line_feed) (printable x) h
   where
-    go : (t u : Bool) → cond t (bad_line (n + 1) true xs) (cond u (bad_line n false xs) n) ≡ 0 → bad_line (cond t (n + 1) n) t xs ≡ 0
+    go : (t u : Bool) → cond t (bad_line (n + 1) true xs) (cond u (bad_line n false xs) (Some n)) ≡ None → bad_line (cond t (n + 1) n) t xs ≡ None
     go true u h = h
     go false true h = h
-    go false false h = absurd (omega arith)
+    go false false h = absurd (let z : ◌≡◌ {A = ℕ} 0 1 = cc in omega arith)
 
-ended-more : (x m : ℕ) (xs : Text) (t : Bool) → eqb x line_feed ≡ t → bad_line m t xs ≡ 0 → 0 < m → ended (lines_of xs) ≡ xs
+ended-more : (x m : ℕ) (xs : Text) (t : Bool) → eqb x line_feed ≡ t → bad_line m t xs ≡ None → ended (lines_of xs) ≡ xs
     → ended (cond t ([] ∷ lines_of xs) (push x (lines_of xs))) ≡ x ∷ xs
 unfolding bad_line ended
-ended-more x m xs true e h p r = cc (eqb-true x line_feed e)
-ended-more x m [] false e h p r = absurd (omega arith)
-ended-more x m (y ∷ ys) false e h p r = cc (ended-push x (lines_of (y ∷ ys)) (some-pieces line_feed [] y ys))
+ended-more x m xs true e h r = cc (eqb-true x line_feed e)
+ended-more x m [] false e h r = absurd (let z : ◌≡◌ {A = ℕ} 0 1 = cc in omega arith)
+ended-more x m (y ∷ ys) false e h r = cc (ended-push x (lines_of (y ∷ ys)) (some-pieces line_feed [] y ys))
 
-pub ended-lines : (n : ℕ) (f : Bool) (s : Text) → bad_line n f s ≡ 0 → 0 < n → ended (lines_of s) ≡ s
+pub ended-lines : (n : ℕ) (f : Bool) (s : Text) → bad_line n f s ≡ None → ended (lines_of s) ≡ s
 unfolding ended pieces
-ended-lines n f [] h p = refl
-ended-lines n f (x ∷ xs) h p =
-    let m = bad_more n f x xs h p in
-    let q = rises (eqb x line_feed) in
-    ended-more x _ xs (eqb x line_feed) refl m q (ended-lines (cond (eqb x line_feed) (n + 1) n) (eqb x line_feed) xs m q)
-  where
-    rises : (t : Bool) → 0 < cond t (n + 1) n
-    rises true = omega arith
-    rises false = p
+ended-lines n f [] h = refl
+ended-lines n f (x ∷ xs) h =
+    let m = bad_more n f x xs h in
+    ended-more x _ xs (eqb x line_feed) refl m (ended-lines (cond (eqb x line_feed) (n + 1) n) (eqb x line_feed) xs m)
 
 -- no piece has the separator
 pub lines_lack : (b : ℕ) (s : Text) → all_lack b (pieces b [] s) ≡ true

@@ -1,49 +1,42 @@
 -- What the code finds of a token and of a row of them, and what the definition says.
-use mathlib.Core.Path.{◌≡◌, refl, ◌∙◌}
-use mathlib.Core.Logic.{◌≢◌}
-use mathlib.Core.Bool.{Bool, true, false}
-use mathlib.Core.List.{List, [], ◌∷◌}
+use mathlib.Core.Path.{◌≡◌, refl, sym, ◌∙◌}
+use mathlib.Core.Bool.{Bool, true, false, cond}
+use mathlib.Core.List.{List, [], ◌∷◌, ◌++◌}
 use mathlib.Core.Option.{Option, some, none, Option-elim}
 use Prim.Native.Nat.{ℕ, suc, ◌+◌, ◌-◌, ◌*◌, ◌≤◌, ◌<◌}
 use native.Mathlib.Omega.{arith}
-use borrow.Author.Tests.{lt-ltb, le-ltb, ltb-true, ltb-false, le-leb, lt-leb, eqb-true, eqb-false}
+use borrow.Author.Tests.{ltb-true, ltb-false, le-leb, lt-leb, eqb-true}
 use lib.Dec.{eqb, ltb}
-use lib.ListN.{length, take, drop, set, length-drop}
-use lib.Seq.{take_all, drop-drop}
+use lib.ListN.{length, take, drop, set, get_or, get_or-append, length-append, length-drop}
+use lib.Seq.{take_all, drop-drop, get_or-append_seam}
+use Rattle.words.specs.Listed.{lacks}
 use Rattle.words.proofs.Runs.{to_end}
 use Rattle.text.specs.Bytes.{index_of}
-use Rattle.term.specs.declared.heads.Arity.TheVariants.{Unknown, Children}
 use Rattle.term.specs.Heads.{Reading, unread, labelled, read, arity_in, arity_of}
-use Rattle.text.specs.declared.tokens.Tokens.{Tokens}
-use Rattle.text.specs.declared.tokens.Tokens.TheVariants.{Count, Malformed}
-use Rattle.text.specs.Numbers.{at_most}
+use Rattle.std.specs.Prelude as Code
+use Rattle.std.specs.Prelude.{Some, None, is_some, position, MatchBool}
+use Rattle.std.specs.List.{IsFirstMatchOrLen}
+use Rattle.text.specs.Numbers.{at_most, told}
 use Rattle.text.specs.Pieces.{Text, space, colon, parted, piece_end, fields_from}
-use Rattle.text.specs.Tokens.{is_labelled, known, carries, bare, paired, token_in, both, words_of, told_tokens, stored}
-use Rattle.text.proofs.Cutting.{index_within, pieces_more, pieces_last}
+use Rattle.text.specs.Tokens.{is_labelled, known, carries, bare, paired, token_in, both, words_of, stored}
+use Rattle.text.proofs.Cutting.{index_within, parted-one, pieces-join, pieces_more, pieces_last}
+use Rattle.text.proofs.Scanned.{find_is}
 
 -- ---- a known word
-pub known_some : (w n : ℕ) → arity_of w ≡ Children n → true ≡ known w
+pub known_is : (w : ℕ) → is_some (arity_of w) ≡ known w
 unfolding known arity_of arity_in is_labelled
-known_some w n e = go (read w) e
+known_is w = go (read w)
   where
-    go : (r : Reading) → arity_in r ≡ Children n → true ≡ is_labelled r
-    go unread e = absurd (let z : ◌≡◌ {A = ℕ} 0 1 = cc in omega arith)
-    go (labelled l m) e = refl
-
-pub known-none : (w : ℕ) → arity_of w ≡ Unknown → false ≡ known w
-unfolding known arity_of arity_in is_labelled
-known-none w e = go (read w) e
-  where
-    go : (r : Reading) → arity_in r ≡ Unknown → false ≡ is_labelled r
-    go unread e = refl
-    go (labelled l m) e = absurd (let z : ◌≡◌ {A = ℕ} 0 1 = cc in omega arith)
+    go : (r : Reading) → is_some (arity_in r) ≡ is_labelled r
+    go unread = refl
+    go (labelled l m) = refl
 
 -- ---- one token
-bare-none : bare none ≡ none
+pub bare-none : bare none ≡ none
 unfolding bare
 bare-none = refl
 
-paired_none : (a : Option ℕ) → paired none a ≡ none
+pub paired_none : (a : Option ℕ) → paired none a ≡ none
 unfolding paired
 paired_none a = refl
 
@@ -52,29 +45,24 @@ unfolding paired
 half_paired none e = refl
 half_paired (some h) e = rw e
 
--- Its end is that of its head
-module _ (s : Text) {end : ℕ} (e : end ≡ piece_end s 0 colon) where
-  head_end : index_of colon s ≡ end
-  unfolding piece_end
-  head_end = omega arith
+-- by whether it has a colon
+pub token-bare : (s : Text) → position (λ x. eqb x colon) s ≡ None → token_in s ≡ bare (at_most 255 s)
+unfolding token_in
+token-bare s e = go (ltb (index_of colon s) (length s)) refl (sym (find_is colon s) ∙ e)
+  where
+    go : (t : Bool) → ltb (index_of colon s) (length s) ≡ t → cond t (Some (index_of colon s)) None ≡ None → token_in s ≡ bare (at_most 255 s)
+    go true p q = absurd (let z : ◌≡◌ {A = ℕ} 0 1 = cc in omega arith)
+    go false p q = rw p
 
-  pub end-within : end ≤ length s
-  end-within = let h = index_within colon s in let z = head_end in omega arith
-
-  pub token-paired : end ≢ length s → token_in s ≡ paired (at_most 255 (take end s)) (at_most 255 (take (length s - (end + 1)) (drop (end + 1) s)))
-  unfolding token_in
-  token-paired n = let h = end-within in rw (head_end, lt-ltb end (length s) (omega arith), to_end s (end + 1))
-
-  pub token-bare : end ≡ length s → token_in s ≡ bare (at_most 255 (take end s))
-  unfolding token_in
-  token-bare f = rw (head_end, le-ltb end (length s) (omega arith), take_all end s (omega arith))
-
-  pub no_head : at_most 255 (take end s) ≡ none → token_in s ≡ none
-  no_head n = go (eqb end (length s)) refl
-    where
-      go : (t : Bool) → eqb end (length s) ≡ t → token_in s ≡ none
-      go true f = token-bare (eqb-true end (length s) f) ∙ rw n bare-none
-      go false f = token-paired (eqb-false end (length s) f) ∙ rw n (paired_none _)
+pub token-paired : (s : Text) {i : ℕ} → position (λ x. eqb x colon) s ≡ Some i
+    → token_in s ≡ paired (at_most 255 (take i s)) (at_most 255 (take (length s - (i + 1)) (drop (i + 1) s)))
+unfolding token_in
+token-paired s {i} e = go (ltb (index_of colon s) (length s)) refl (sym (find_is colon s) ∙ e)
+  where
+    go : (t : Bool) → ltb (index_of colon s) (length s) ≡ t → cond t (Some (index_of colon s)) None ≡ Some i
+        → token_in s ≡ paired (at_most 255 (take i s)) (at_most 255 (take (length s - (i + 1)) (drop (i + 1) s)))
+    go true p q = let z : index_of colon s ≡ i = cc in rw (p, z, to_end s (i + 1))
+    go false p q = absurd (let z : ◌≡◌ {A = ℕ} 0 1 = cc in omega arith)
 
 -- what the code finds of the word that it made
 pub found-known : {w v : ℕ} {b t : Bool} → b ≡ known w → w ≡ v → b ≡ t → known v ≡ t
@@ -136,13 +124,37 @@ pub fields_end : (s : Text) (at : ℕ) → length s < at → fields_from at s �
 unfolding fields_from
 fields_end s at h = rw (lt-leb at (length s) h)
 
--- how many words there are, behind n others
-abbrev pub counted : ℕ → Option (List ℕ) → Tokens
-counted n none = Malformed
-counted n (some ws) = Count (n + length ws)
+-- what `split` has left, by whether it is done
+abbrev pub left : Bool → Text → List Text
+left done rest = cond done [] (parted space rest)
 
-pub counted-all : (o : Option (List ℕ)) → told_tokens o ≡ counted 0 o
-unfolding told_tokens
+lacks-by : (b : ℕ) (x : Text) → ((k d : ℕ) → 0 ≤ k → k < length x → eqb (get_or x k d) b ≡ false) → lacks b x ≡ true
+unfolding lacks
+lacks-by b [] h = refl
+lacks-by b (c ∷ x) h = rw (h 0 0 (omega arith) (omega arith)) (lacks-by b x (λ k d l m. h (suc k) d (omega arith) (omega arith)))
+
+-- the piece that it gives
+pub piece_split : (done : Bool) (rest rest' x : Text) → MatchBool done (rest ≡ x) ((y : ℕ) × (rest ≡ x ++ (y ∷ rest'))) → IsFirstMatchOrLen (λ c. eqb c space) rest (length x)
+    → parted space rest ≡ x ∷ left done rest'
+piece_split true rest r x e f = let g = rw e at f in rw e (parted-one space x (lacks-by space x (λ k d l m. g.0 k d l m)))
+piece_split false rest r x e f =
+    let y = e.0 in
+    let g = rw e.1 at f in
+    let s = eqb-true y space (rw (get_or-append_seam x y r 0) at (g.1 (omega (arith, length-append x (y ∷ r))) 0)) in
+    rw (e.1, s) (pieces-join space ([] ∷ []) x r (lacks-by space x (λ k d l m. rw (get_or-append x (y ∷ r) d k m) at (g.0 k d l m))))
+
+-- what is left behind a piece is shorter
+pub left_shorter : (done : Bool) (rest rest' x : Text) → MatchBool done (rest ≡ x) ((y : ℕ) × (rest ≡ x ++ (y ∷ rest'))) → done ≡ false → length rest' < length rest
+left_shorter true rest r x e f = absurd (let z : ◌≡◌ {A = ℕ} 0 1 = cc in omega arith)
+left_shorter false rest r x e f = rw (e.1, length-append x (e.0 ∷ r)) (omega arith)
+
+-- how many words there are, behind n others
+abbrev pub counted : ℕ → Option (List ℕ) → Code.Option ℕ
+counted n none = None
+counted n (some ws) = Some (n + length ws)
+
+pub counted-all : (o : Option (List ℕ)) → told length o ≡ counted 0 o
+unfolding told
 counted-all none = refl
 counted-all (some ws) = let z : 0 + length ws ≡ length ws = omega arith in rw z
 
@@ -155,7 +167,7 @@ module _ (p : Text) (ps : List Text) where
       go none = refl
       go (some ws) = let z : n + suc (length ws) ≡ n + 1 + length ws = omega arith in rw z
 
-  pub counted_none : (n : ℕ) → token_in p ≡ none → counted n (words_of (p ∷ ps)) ≡ Malformed
+  pub counted_none : (n : ℕ) → token_in p ≡ none → counted n (words_of (p ∷ ps)) ≡ None
   unfolding words_of both
   counted_none n e = rw e
 
@@ -167,7 +179,7 @@ module _ (p : Text) (ps : List Text) where
   unfolding stored Option-elim
   stored-none out k e = rw e
 
-pub counted-end : (n : ℕ) → counted n (words_of []) ≡ Count n
+pub counted-end : (n : ℕ) → counted n (words_of []) ≡ Some n
 unfolding words_of
 counted-end n = let z : n + 0 ≡ n = omega arith in rw z
 

@@ -1,5 +1,5 @@
 -- The bytes of a file. Document 01, code 3: "a byte other than LF and 32 to 126, or no LF as last byte (an empty file too)".
-use Rattle.std.specs.Prelude.{Bool, true, false, cond, ◌&&◌, ◌||◌, List, [], ◌∷◌, ℕ, suc, ◌+◌, eqb, leb}
+use Rattle.std.specs.Prelude.{Bool, true, false, cond, ◌&&◌, ◌||◌, List, [], ◌∷◌, ℕ, suc, ◌+◌, eqb, leb, Option, Some, None}
 use Rattle.words.specs.Listed.{all}
 
 abbrev pub line_feed : ℕ
@@ -16,12 +16,12 @@ fine b = eqb b line_feed || printable b
 abbrev pub all_fine : List ℕ → Bool
 all_fine bs = all fine bs
 
--- The line of the first fault, or 0 where there is none. The bytes begin in line n, and `ended` says whether a LF stands straight before them. "the first bad byte comes before a
+-- The line of the first fault, if there is one. The bytes begin in line n, and `ended` says whether a LF stands straight before them. "the first bad byte comes before a
 -- missing last LF, whose line is the unfinished one (1 when empty)"
-unfoldable pub bad_line : ℕ → Bool → List ℕ → ℕ
+unfoldable pub bad_line : ℕ → Bool → List ℕ → Option ℕ
 unfolding printable
-bad_line n ended [] = cond ended 0 n
-bad_line n ended (b ∷ bs) = cond (eqb b line_feed) (bad_line (n + 1) true bs) (cond (printable b) (bad_line n false bs) n)
+bad_line n ended [] = cond ended None (Some n)
+bad_line n ended (b ∷ bs) = cond (eqb b line_feed) (bad_line (n + 1) true bs) (cond (printable b) (bad_line n false bs) (Some n))
 
 -- how many bytes stand before the first byte b, or all where there is none
 unfoldable pub index_of : ℕ → List ℕ → ℕ

@@ -2,9 +2,9 @@
 -- "Numbers are decimal without leading zeros".
 use Rattle.std.specs.Prelude.{Bool, true, false, cond, ◌&&◌, not, List, [], ◌∷◌, ◌++◌, ℕ, zero, suc, ◌+◌, ◌-◌, ◌*◌, ◌/◌, ◌%◌, min, eqb, leb, ltb}
 use Rattle.std.proofs.Math.Option.{Option, some, none}
+use Rattle.std.specs.Prelude as Code
+use Rattle.std.specs.Prelude.{Some, None}
 use Rattle.words.specs.Listed.{all}
-use Rattle.text.specs.declared.numbers.Number.{Number}
-use Rattle.text.specs.declared.numbers.Number.TheVariants.{Value, Malformed}
 
 -- ---- read
 unfoldable pub is_digit : ℕ → Bool
@@ -48,10 +48,11 @@ unfoldable pub decimal : ℕ → List ℕ
 unfolding digits_by
 decimal n = digits_by (suc n) n
 
--- ---- as the code answers: no limit is above 65,535, so all numbers above say the same
+-- ---- as the code answers, whose `Option` is a type of its own: what is there, by a function of what it is
+unfoldable pub told : {A B : Type 0} → (A → B) → Option A → Code.Option B
+told f none = None
+told f (some x) = Some (f x)
+
+-- no limit is above 65,535, so all numbers above say the same
 abbrev pub most : ℕ
 most = 65536
-
-unfoldable pub told : Option ℕ → Number
-told none = Malformed
-told (some n) = Value (min most n)

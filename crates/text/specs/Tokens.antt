@@ -5,12 +5,6 @@ use Rattle.std.specs.Prelude.{Bool, true, false, cond, ◌||◌, not, List, [], 
 use Rattle.std.proofs.Math.Option.{Option, some, none, Option-elim}
 use Rattle.text.specs.Bytes.{index_of}
 use Rattle.term.specs.Heads.{Reading, unread, labelled, read}
-use Rattle.text.specs.declared.tokens.Part.{Part}
-use Rattle.text.specs.declared.tokens.Part.TheVariants as P
-use Rattle.text.specs.declared.tokens.Token.{Token}
-use Rattle.text.specs.declared.tokens.Token.TheVariants as T
-use Rattle.text.specs.declared.tokens.Tokens.{Tokens}
-use Rattle.text.specs.declared.tokens.Tokens.TheVariants as C
 use Rattle.text.specs.Pieces.{Text, space, colon, parted, pieces}
 use Rattle.text.specs.Numbers.{decimal, at_most, number_in, limited_to}
 
@@ -76,19 +70,6 @@ unfoldable pub tokens : List ℕ → Text
 unfolding token spaced
 tokens [] = []
 tokens (w ∷ ws) = token w ++ spaced ws
-
--- ---- as the code answers
-unfoldable pub told_part : Option ℕ → Part
-told_part none = P.Malformed
-told_part (some n) = P.Byte n
-
-unfoldable pub told_token : Option ℕ → Token
-told_token none = T.Malformed
-told_token (some w) = T.Word w
-
-unfoldable pub told_tokens : Option (List ℕ) → Tokens
-told_tokens none = C.Malformed
-told_tokens (some ws) = C.Count (length ws)
 
 -- a slice behind so many tokens, one word each from the k-th place on, up to the first that is malformed; words behind the slice's end are dropped
 unfoldable pub stored : List Text → List ℕ → ℕ → List ℕ

@@ -7,11 +7,12 @@ ghost use Rattle.typebook.specs.Code.Lines.{rule_at, is_sum, fitted, turned, cla
 
 use term::heads::{Class, child_class, result_class};
 
-// The rules: a line a head, four hexadecimal digits, and 0 for a number that is no head's.
+// The rules: a line a head, four hexadecimal digits, and 0 for a number that is no head's. Digits, since the rules stand in one table as the heads do; whoever reads a line takes its digits apart.
 // What is asked of the children beside their classes: 0 nothing; 1 one index; 2 the first's columns are the second's rows; 3 all are alike; 4 nothing, and their indices are
 // multiplied; 5 one class, and likewise.
 // The class: 0 as in the table of heads; 1 the first's; 2 the second's; 3 the first's adjoint's.
 // The two indices: 0 none; 1 and 2 those of the first; 3 and 4 those of the second.
+#[tactic(auto, unfolding(crate::specs::Code::Lines::rule_at, crate::specs::Code::Lines::rules))]
 pub fn rule_of(head: usize) -> u16
     ensures { result ≡ rule_at head }
 {
@@ -48,14 +49,14 @@ pub fn rule_of(head: usize) -> u16
     }
 }
 
-// The heads of sums and products of many.
+// The heads of sums and products of many: those whose children are all alike, by the first digit of the rule.
 pub fn is_sum(head: usize) -> bool
     ensures { result ≡ is_sum head }
 {
     rule_of(head) / 4096 == 3
 }
 
-// The number of a class, which is its digit in the table of heads.
+// The number of a class, which is its digit in the table of heads. No `From`: `number(class)` says which number, `u8::from(class)` would not.
 pub fn number(class: Class) -> u8
     ensures { result ≡ number_of class }
 {
@@ -76,59 +77,45 @@ pub fn number(class: Class) -> u8
 fn fits(class: Class, wanted: Class) -> bool
     ensures { result ≡ fitting class wanted }
 {
-    let n = number(class);
-    let w = number(wanted);
-    if w == 7 {
-        return 4 <= n && n <= 6;
+    match wanted {
+        Class::Array => matches!(class, Class::Ket | Class::Bra | Class::Operator),
+        Class::Term => matches!(
+            class,
+            Class::Scalar | Class::Ket | Class::Bra | Class::Operator
+        ),
+        _ => class == wanted,
     }
-    if w == 8 {
-        return 3 <= n && n <= 6;
-    }
-    n == w
 }
 
 // Whether the children are of the classes that the head wants. A sum's are all like the first.
+#[tactic(auto, unfolding(crate::specs::Code::Lines::fitted))]
 pub fn are_fit(head: usize, n: usize, class: Class, other: Class) -> bool
     ensures { result ≡ fitted head n class other }
 {
-    if !fits(class, child_class(head, 0)) {
-        return false;
-    }
-    if is_sum(head) {
-        return true;
-    }
-    if n == 2 {
-        return fits(other, child_class(head, 1));
-    }
-    true
+    fits(class, child_class(head, 0))
+        && (is_sum(head) || n != 2 || fits(other, child_class(head, 1)))
 }
 
-// The class of the result.
+// The class of the result; `k` is the second digit of the head's rule, and whatever names no class asks the table of heads.
+#[tactic(auto, unfolding(crate::specs::Code::Lines::class_by))]
 pub fn class_by(k: u16, head: usize, class: Class, other: Class) -> Class
     ensures { result ≡ class_by k head class other }
 {
-    if k == 1 {
-        return class;
+    match k {
+        1 => class,
+        2 => other,
+        3 => turn(class),
+        _ => result_class(head),
     }
-    if k == 2 {
-        return other;
-    }
-    if k == 3 {
-        return turn(class);
-    }
-    result_class(head)
 }
 
 // The class of an adjoint.
-fn turn(class: Class) -> Class
+pub fn turn(class: Class) -> Class
     ensures { result ≡ turned class }
 {
-    let n = number(class);
-    if n == 4 {
-        return Class::Bra;
+    match class {
+        Class::Ket => Class::Bra,
+        Class::Bra => Class::Ket,
+        _ => class,
     }
-    if n == 5 {
-        return Class::Ket;
-    }
-    class
 }

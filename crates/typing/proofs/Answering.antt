@@ -19,6 +19,8 @@ use Rattle.term.proofs.Parsing.{parse-tree, some_words}
 use Rattle.term.proofs.TermTest.{term-tree}
 use Rattle.typing.specs.declared.sorts.Sorted as S
 use Rattle.typing.specs.declared.terms.Kind as K
+use Rattle.typing.specs.declared.terms.Kind.TheVariants as Kinds
+use Rattle.std.specs.Prelude.{Some, None}
 use Rattle.typing.specs.declared.terms.Typing as A
 use Rattle.typing.specs.Answers.{pad, type_record, refuse, typing, strayed, answer_of, typing_of}
 use Rattle.declarations.specs.Declarations.{context_in, names_in, good_declarations}
@@ -28,7 +30,7 @@ use Rattle.types.specs.Strays.{FirstStray, NoStray, stray_of}
 use Rattle.types.specs.TypeOf.{typed, type_of}
 use Rattle.types.proofs.Strays.{strays, typed_no_stray}
 use Rattle.declarations.proofs.Entries.{well_formed}
-use Rattle.typebook.specs.Code.Shapes.{Shape, shape_of, number_of}
+use Rattle.typebook.specs.Code.Shapes.{Shape, shape_of}
 use Rattle.typing.specs.Code.Shapes.{shape_at, Small}
 use Rattle.typing.specs.Code.Verdicts.{kind_of}
 use Rattle.typing.proofs.Lying.{run_length}
@@ -121,41 +123,41 @@ padded : (src : List ℕ) → length src ≤ 63 → overlaid (replicate 63 0) sr
 unfolding overlaid pad
 padded src h = over_zeros src 63 63 h (omega arith)
 
--- ---- the answer by the number of the class
--- a sort is a type unless it is an index or a basis, by the number of its class
-low : (n d : ℕ) (T : Sort) → number_of (shape_of T).class < 3 → refuse 11 0 ≡ answer_of n d (typed T)
+-- ---- the answer by the kind
+-- a sort is a type unless it is an index or a basis
+low : (n d : ℕ) (T : Sort) (k l : ℕ) → None ≡ kind_of (shape_of T).class k l → refuse 11 0 ≡ answer_of n d (typed T)
 unfolding answer_of
-low n d (index σ) h = refl
-low n d (basis σ) h = refl
-low n d scalar h = absurd (omega arith)
-low n d (ket σ) h = absurd (omega arith)
-low n d (bra σ) h = absurd (omega arith)
-low n d (operator σ τ) h = absurd (omega arith)
+low n d (index σ) k l e = refl
+low n d (basis σ) k l e = refl
+low n d scalar k l e = cc
+low n d (ket σ) k l e = cc
+low n d (bra σ) k l e = cc
+low n d (operator σ τ) k l e = cc
 
-high : (n d : ℕ) (T : Sort) → 3 ≤ number_of (shape_of T).class
-    → typing n d (kind_of (number_of (shape_of T).class) (length (shape_of T).left) (length (shape_of T).right)) (shape_of T).left (shape_of T).right ≡ answer_of n d (typed T)
+high : (n d : ℕ) (T : Sort) {kind : K.Kind} → Some kind ≡ kind_of (shape_of T).class (length (shape_of T).left) (length (shape_of T).right)
+    → typing n d kind (shape_of T).left (shape_of T).right ≡ answer_of n d (typed T)
 unfolding answer_of
-high n d (index σ) h = absurd (omega arith)
-high n d (basis σ) h = absurd (omega arith)
-high n d scalar h = refl
-high n d (ket σ) h = refl
-high n d (bra σ) h = refl
-high n d (operator σ τ) h = refl
+high n d (index σ) e = cc
+high n d (basis σ) e = cc
+high n d scalar {kind} e = let z : kind ≡ Kinds.Scalar = cc in rw z
+high n d (ket σ) {kind} e = let z : kind ≡ Kinds.Ket (length (words σ)) = cc in rw z
+high n d (bra σ) {kind} e = let z : kind ≡ Kinds.Bra (length (words σ)) = cc in rw z
+high n d (operator σ τ) {kind} e = let z : kind ≡ Kinds.Operator (length (words σ)) (length (words τ)) = cc in rw z
 
 -- with the words at the bottom of the stack
-module _ (n d : ℕ) {k : ℕ} (s : S.Sorted) (st : List ℕ) (pre : Small s × (126 ≤ length st)) (e : k ≡ number_of s.class) where
-  pub no_type : {r : A.Typing} → k < 3 → r ≡ refuse 11 0 → (T : Sort) → shape_at st 0 s ≡ shape_of T → r ≡ answer_of n d (typed T)
-  no_type h f T is = f ∙ low n d T (rw (← ap (λ (x : Shape). x.class) is, ← e) h)
+module _ (n d : ℕ) (s : S.Sorted) (st : List ℕ) (pre : Small s × (126 ≤ length st)) where
+  pub no_type : None ≡ kind_of s.class s.left s.right → (T : Sort) → shape_at st 0 s ≡ shape_of T → refuse 11 0 ≡ answer_of n d (typed T)
+  no_type h T is = low n d T s.left s.right (rw (← ap (λ (x : Shape). x.class) is) h)
 
-  pub a_type : {kind : K.Kind} {rows columns : List ℕ} → 3 ≤ k → kind ≡ kind_of k s.left s.right → rows ≡ overlaid (replicate 63 0) (take s.left st)
+  pub a_type : {kind : K.Kind} {rows columns : List ℕ} → Some kind ≡ kind_of s.class s.left s.right → rows ≡ overlaid (replicate 63 0) (take s.left st)
       → columns ≡ overlaid (replicate 63 0) (take (s.left + s.right - s.left) (drop s.left st)) → (T : Sort) → shape_at st 0 s ≡ shape_of T
       → ◌≡◌ {A = A.Typing} (record { code = 0; side = 0; step = 0; at = 0; length = n; depth = d; of = record { kind = kind; rows = rows; columns = columns } }) (answer_of n d (typed T))
   unfolding typing type_record
-  a_type h f x y T is =
+  a_type {kind} h x y T is =
       let z : 0 + s.left ≡ s.left = omega arith in
       let c : s.class ≡ (shape_of T).class = ap (λ (x : Shape). x.class) is in
       let i : take s.left st ≡ (shape_of T).left = ap (λ (x : Shape). x.left) is in
       let j : take s.right (drop s.left st) ≡ (shape_of T).right = rw z at (ap (λ (x : Shape). x.right) is) in
       let l : s.left ≡ length (shape_of T).left = sym (run_length st 0 s.left (omega arith)) ∙ ap length i in
       let m : s.right ≡ length (shape_of T).right = sym (run_length st s.left s.right (omega arith)) ∙ ap length j in
-      rw (x, y, f, add-sub_cancel_left, i, j, padded (shape_of T).left (omega arith), padded (shape_of T).right (omega arith), e, c, l, m) (high n d T (rw (← c, ← e) h))
+      rw (x, y, add-sub_cancel_left, i, j, padded (shape_of T).left (omega arith), padded (shape_of T).right (omega arith)) (high n d T (rw (← c, ← l, ← m) h))

@@ -1,14 +1,17 @@
 -- The sums over a basis around a part: its context, and the chain of their records on the stack.
 use mathlib.Core.Path.{◌≡◌, refl, sym, ◌∙◌, ap}
+use mathlib.Core.Logic.{◌≢◌}
 use mathlib.Core.Bool.{Bool, true, false, cond, ◌&&◌, and-eq-true_iff}
 use mathlib.Core.List.{List, [], ◌∷◌, ◌++◌, append_assoc, append-nil}
 use mathlib.Core.Option.{some, none as nothing}
+use Rattle.std.specs.Prelude.{Some, None}
 use Prim.Native.Nat.{ℕ, zero, suc, ◌+◌, ◌-◌, ◌≤◌, ◌<◌}
 use native.Mathlib.Omega.{arith}
-use borrow.Author.Tests.{lt-ltb, le-ltb, ltb-true, ltb-false}
+use borrow.Author.Tests.{ltb-true, ltb-false}
 use lib.Dec.{eqb, ltb}
 use lib.ListN.{length, take, drop, get_or, get_elem?, set, length-append, length-set}
-use lib.Seq.{take-take, length-take-le, get_or-take, get_or_at, drop-cons}
+use lib.Seq.{take-take, length-take-le, get_or-take, get_or_at}
+use Rattle.std.specs.List.{copy_within}
 use Rattle.words.specs.Words.{laid}
 use Rattle.words.proofs.Runs.{laid_in}
 use Rattle.term.specs.declared.heads.Class.TheVariants.{Basis}
@@ -27,7 +30,7 @@ use Rattle.typing.specs.declared.sorts.Sorted as S
 use Rattle.typing.specs.Code.Shapes.{run, shape_at, Small, Room, Above, Answers}
 use Rattle.typing.specs.Code.Chains.{Around, around_of, link_at, index_words, Sum, Chained, unbound, bound, Held, index_len, record_at, in_reach}
 use Rattle.typing.specs.Code.Verdicts.{index_shape, bound_shape}
-use Rattle.typing.proofs.Lying.{not-both, run_length, run-both, run-kept, above_refl, above-laid, laid_both, shape-laid, set-laid}
+use Rattle.typing.proofs.Lying.{run_length, run-kept, above-laid, answers_none, laid_both, shape-laid, set-laid}
 
 -- ---- contexts
 pub well_at : (ds : List ℕ) → good_declarations ds ≡ true → (bs : List Tree) → WellFormed (context_at ds bs)
@@ -148,72 +151,75 @@ unfolding in_reach
 reached {n} {a} h = let e = (and-eq-true_iff (ltb a max_bodies) (ltb a n)).0 h in (e.0, ltb-true a n e.1)
 
 module _ {types : ℕ} {st : List ℕ} {top : ℕ} {around : Around} (x : Held types st top around) (a : ℕ) where
-  pub bound-past : in_reach around.bodies a ≡ false → Answers (bound_shape types a x.trees) (record { typed = false; sorted = record { class = Basis; left = 0; right = 0 } }) top st st
+  pub bound-past : in_reach around.bodies a ≡ false → Answers (bound_shape types a x.trees) None top st st
   unfolding bound_shape index_shape in_reach
   bound-past h = go (ltb a max_bodies) h
     where
-      go : (b : Bool) → (b && ltb a around.bodies) ≡ false
-          → Answers (given b (index_shape types (get_elem? x.trees a))) (record { typed = false; sorted = record { class = Basis; left = 0; right = 0 } }) top st st
-      go true e = let l = x.long in let z = ltb-false a around.bodies e in rw (past x.trees a (omega arith)) (record { told = refl; small = λ y. not-both y refl; kept = above_refl top st })
-      go false e = record { told = refl; small = λ y. not-both y refl; kept = above_refl top st }
+      go : (b : Bool) → (b && ltb a around.bodies) ≡ false → Answers (given b (index_shape types (get_elem? x.trees a))) None top st st
+      go true e = let l = x.long in let z = ltb-false a around.bodies e in rw (past x.trees a (omega arith)) (answers_none refl)
+      go false e = answers_none refl
 
   pub bound-sum : a < around.bodies → (σ : Tree) × (get_elem? x.trees a ≡ some σ) × Sum types st top (link_at st around.inner a) σ
   bound-sum h = let l = x.long in sum-at x.chain a (omega arith)
 
-told_by : (types : ℕ) (σ : Tree) (st : List ℕ) (top n : ℕ) → Room top st → n ≤ 63 → (ws : List ℕ) → length ws ≡ n → ws ≡ index_words types σ
-    → Answers (index_shape types (some σ)) (record { typed = ltb 0 n; sorted = record { class = Basis; left = n; right = 0 } }) top st (laid st top ws)
+-- by the words of its index, where there are none and where there are some
+told_none : (types : ℕ) (σ : Tree) (st : List ℕ) (top : ℕ) {n : ℕ} → n ≡ 0 → (ws : List ℕ) → length ws ≡ n → ws ≡ index_words types σ → Answers (index_shape types (some σ)) None top st st
 unfolding index_shape index_words
-told_by types σ st top n room few ws l e = go (index_tree types σ) refl e
+told_none types σ st top z ws l e = go (index_tree types σ) e
   where
-    kept : Above top st (laid st top ws)
-    kept = above-laid st top ws (omega arith)
+    go : (b : Bool) → ws ≡ cond b (words σ) [] → Answers (cond b (some (shape_of (basis σ))) nothing) None top st st
+    go true q = absurd (omega (arith, some_words σ, ap length q))
+    go false q = answers_none refl
 
-    go : (b : Bool) → index_tree types σ ≡ b → ws ≡ cond b (words σ) []
-        → Answers (cond b (some (shape_of (basis σ))) nothing) (record { typed = ltb 0 n; sorted = record { class = Basis; left = n; right = 0 } }) top st (laid st top ws)
-    go true t q =
-        let z : 0 < n = omega (arith, some_words σ, ap length q) in
+told_some : (types : ℕ) (σ : Tree) (st : List ℕ) (top n : ℕ) → 0 < n → Room top st → n ≤ 63 → (ws : List ℕ) → length ws ≡ n → ws ≡ index_words types σ
+    → Answers (index_shape types (some σ)) (Some (record { class = Basis; left = n; right = 0 })) top st (laid st top ws)
+unfolding index_shape index_words
+told_some types σ st top n z room few ws l e = go (index_tree types σ) e
+  where
+    go : (b : Bool) → ws ≡ cond b (words σ) [] → Answers (cond b (some (shape_of (basis σ))) nothing) (Some (record { class = Basis; left = n; right = 0 })) top st (laid st top ws)
+    go true q =
         let s = rw (append-nil, l) at (shape-laid Basis st top ws [] (omega (arith, length-append ws []))) in
-        record { told = rw (lt-ltb 0 n z) (ap some (s ∙ ap (λ (v : List ℕ). shape Basis v []) q)); small = λ y. (few, omega arith); kept = kept }
-    go false t q =
-        let z : n ≡ 0 = omega (arith, ap length q) in
-        record { told = rw (le-ltb 0 n (omega arith)); small = λ y. (few, omega arith); kept = kept }
+        record { told = ap some (s ∙ ap (λ (v : List ℕ). shape Basis v []) q); small = (few, omega arith); kept = above-laid st top ws (omega arith) }
+    go false q = absurd (omega (arith, ap length q))
 
-module _ {types : ℕ} {st : List ℕ} {top : ℕ} {around : Around} (x : Held types st top around) (a : ℕ) (near : in_reach around.bodies a ≡ true) {at n : ℕ} (place : at ≡ link_at st around.inner a)
-    (size : n ≡ get_or st at 0) where
-  -- its index lies below the offset
-  pub bound-room : (at + 2 ≤ top) × (n ≤ at) × (n ≤ 63)
-  bound-room = let s = (bound-sum x a (reached near).1).2 in (rw place s.low, rw (size, place) s.back, rw (size, place) s.few)
+-- by what the code finds of it, one step after the other
+module _ {types : ℕ} {st : List ℕ} {top : ℕ} {around : Around} (x : Held types st top around) (a : ℕ) {bodies : ℕ} {b : Bool} (many : bodies ≡ around.bodies) (tested : b ≡ in_reach bodies a)
+    (within : b ≡ true) where
+  near : in_reach around.bodies a ≡ true
+  near = rw many at (sym tested ∙ within)
 
-  pub bound_answers : Room top st → {st' : List ℕ} → st' ≡ laid st top (run st (at - n) n)
-      → Answers (bound_shape types a x.trees) (record { typed = ltb 0 n; sorted = record { class = Basis; left = n; right = 0 } }) top st st'
-  unfolding bound_shape
-  bound_answers room e =
-      let s = bound-sum x a (reached near).1 in
-      let h = bound-room in
-      let w : run st (at - n) n ≡ index_words types s.0 = rw (size, place) s.2.is in
-      rw (e, s.1, (reached near).0) (told_by types s.0 st top n room h.2 (run st (at - n) n) (run_length st (at - n) n (omega arith)) w)
+  module _ {inner at n : ℕ} (from : inner ≡ around.inner) (linked : at ≡ link_at st inner a) (size : n ≡ get_or st at 0) where
+    place : at ≡ link_at st around.inner a
+    place = rw from at linked
 
--- its words, one after the other: they come to stand behind those that they are copied from
-module _ (st : List ℕ) (from to i : ℕ) (apart : from + i ≤ to) (fits : to + i ≤ length st) where
-  abbrev Copied : List ℕ
-  Copied = laid st to (run st from i)
+    -- its index lies below the offset
+    pub bound-room : (at + 2 ≤ top) × (n ≤ at) × (n ≤ 63)
+    bound-room = let s = (bound-sum x a (reached near).1).2 in (rw place s.low, rw (size, place) s.back, rw (size, place) s.few)
 
-  many : length (run st from i) ≡ i
-  many = run_length st from i (omega arith)
+    index-there : run st (at - n) n ≡ index_words types (bound-sum x a (reached near).1).0
+    index-there = let s = bound-sum x a (reached near).1 in rw (size, place) s.2.is
 
-  copied : Above to st Copied
-  copied = above-laid st to (run st from i) (omega (arith, many))
+    pub bound-none : n ≡ 0 → Room top st → Answers (bound_shape types a x.trees) None top st st
+    unfolding bound_shape
+    bound-none z room =
+        let s = bound-sum x a (reached near).1 in
+        let h = bound-room in
+        rw (s.1, (reached near).0) (told_none types s.0 st top z (run st (at - n) n) (run_length st (at - n) n (omega arith)) index-there)
 
-  pub copied_long : {s : List ℕ} → s ≡ Copied → length s ≡ length st
-  copied_long e = rw e copied.long
+    pub bound_some : n ≢ 0 → Room top st → {st' : List ℕ} → st' ≡ laid st top (run st (at - n) n)
+        → Answers (bound_shape types a x.trees) (Some (record { class = Basis; left = n; right = 0 })) top st st'
+    unfolding bound_shape
+    bound_some z room e =
+        let s = bound-sum x a (reached near).1 in
+        let h = bound-room in
+        rw (e, s.1, (reached near).0) (told_some types s.0 st top n (omega arith) room h.2 (run st (at - n) n) (run_length st (at - n) n (omega arith)) index-there)
 
-  pub copied_more : from + i < to → to + i < length st → {s : List ℕ} → s ≡ Copied → set s (to + i) (get_or s (from + i) 0) ≡ laid st to (run st from (i + 1))
-  copied_more h k {s} e =
-      let w = get_or st (from + i) 0 in
-      let one : run st (from + i) 1 ≡ w ∷ [] = rw (drop-cons st (from + i) 0 (omega arith)) in
-      let l = copied.long in
-      let both = rw many at (laid_both st to (run st from i) (w ∷ []) (omega (arith, many))) in
-      rw (e, word_kept to st Copied copied.below (from + i) h, set-laid Copied (to + i) w (omega arith), both, ← one, run-both st from i 1)
+-- its words are copied
+pub within-laid : (st : List ℕ) (at n to : ℕ) → n ≤ at → at ≤ length st → to + n ≤ length st → copy_within st (at - n) at to ≡ laid st to (run st (at - n) n)
+within-laid st at n to h k m =
+    let z : at - (at - n) ≡ n = omega arith in
+    let l : length (run st (at - n) n) ≡ n = run_length st (at - n) n (omega arith) in
+    rw z (append_assoc (take to st) (run st (at - n) n) (drop (to + n) st) ∙ sym (laid_in st to (run st (at - n) n) (omega arith) ∙ rw l))
 
 -- ---- a record is written
 two-laid : (st : List ℕ) (at a b : ℕ) → at + 2 ≤ length st → (get_or (laid st at (a ∷ b ∷ [])) at 0 ≡ a) × (get_or (laid st at (a ∷ b ∷ [])) (at + 1) 0 ≡ b)

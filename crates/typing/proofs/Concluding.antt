@@ -1,18 +1,19 @@
 -- The rules in code: the lines' digits, the indices where they stand, and what is laid on the stack.
 use mathlib.Core.Path.{◌≡◌, refl, sym, ◌∙◌, ap}
-use mathlib.Core.Bool.{Bool, true, false, cond, ◌&&◌, and-eq-true_iff}
+use mathlib.Core.Bool.{Bool, true, false, cond, not, ◌&&◌, ◌||◌, and-eq-true_iff}
 use mathlib.Core.Logic.{◌≢◌, ◌⊎◌, inl, inr}
 use mathlib.Core.List.{List, [], ◌∷◌, ◌++◌, append-nil}
 use mathlib.Core.Option.{Option, some}
-use Prim.Native.Nat.{ℕ, zero, suc, ◌+◌, ◌/◌, ◌%◌, ◌≤◌, ◌<◌}
+use Rattle.std.specs.Prelude.{Some, None}
+use Prim.Native.Nat.{ℕ, zero, suc, ◌+◌, ◌/◌, ◌%◌, ◌≤◌, ◌<◌, min}
 use native.Mathlib.Numerals.{add-one}
 use native.Mathlib.Omega.{arith}
-use borrow.Author.Tests.{lt-leb, ne_eqb, leb-true, eqb-true}
-use lib.Dec.{eqb}
-use lib.ListN.{length, take, get_or, set, length-append, length-set}
+use borrow.Author.Tests.{ne_eqb, leb-true, eqb-true}
+use lib.Dec.{eqb, leb}
+use lib.ListN.{length, take, set, length-append, length-set}
 use lib.Seq.{take-suc-set}
 use Rattle.words.specs.Words.{same_words, laid, Added}
-use Rattle.words.proofs.Runs.{added_both}
+use Rattle.words.proofs.Runs.{added, added_both}
 use Rattle.term.specs.declared.heads.Class.{Class}
 use Rattle.typing.specs.declared.sorts.Gathered as G
 use Rattle.typing.specs.declared.sorts.Plan as P
@@ -20,37 +21,30 @@ use Rattle.typing.specs.declared.sorts.Run as R
 use Rattle.typebook.specs.Code.Shapes.{Shape, shape, given}
 use Rattle.typing.specs.Code.Shapes.{shape_at, run, run_at, Inside, Small, Ready}
 use Rattle.typebook.specs.Code.Lines.{rule_at, piece_of, pair_of, side_of, short_both, fitted, met, class_by, shaped, by_line, children_of}
-use Rattle.typing.specs.Code.Conclude.{place_of, side_size, product, left_at, right_at, rows_of, columns_of, plan_of, standing, sides_of, Laying, Concludes}
-use Rattle.typing.proofs.Lying.{not-both, run_length, run-both, above_refl, above-laid, shape-laid, laid_same}
+use Rattle.typing.specs.Code.Conclude.{place_of, side_size, product, left_at, right_at, rows_of, columns_of, well_made, made_of, plan_of, standing, sides_of, Laying, Concludes}
+use Rattle.typing.proofs.Lying.{run_length, run-both, answers_none, above-laid, shape-laid, laid_same}
 
--- ---- a product whose first index is too long
-pub too_long : (p : Bool) (n m : ℕ) → p ≡ true → 63 < n → short_both p n m ≡ false
+-- the test for a product's sides alone
+pub short_sides : (p : Bool) (n m : ℕ) → short_both p n m ≡ (not p || (leb n 63 && leb m 63))
 unfolding short_both
-too_long p n m e h = rw (e, lt-leb n 63 h)
+short_sides true n m = refl
+short_sides false n m = refl
 
 -- ---- where an index stands by its digit
-pub no_piece : {A : Type 0} (d a b c e : A) (k : ℕ) → k ≢ 1 → k ≢ 2 → k ≢ 3 → k ≢ 4 → get_or (d ∷ a ∷ b ∷ c ∷ e ∷ []) k d ≡ d
-no_piece d a b c e zero p q r s = refl
-no_piece d a b c e (suc zero) p q r s = absurd (p refl)
-no_piece d a b c e (suc (suc zero)) p q r s = absurd (q refl)
-no_piece d a b c e (suc (suc (suc zero))) p q r s = absurd (r refl)
-no_piece d a b c e (suc (suc (suc (suc zero)))) p q r s = absurd (s refl)
-no_piece d a b c e (suc (suc (suc (suc (suc k))))) p q r s = refl
-
-pub place-few : (top : ℕ) (g : G.Gathered) → Small g.first → Small g.latest → (k : ℕ) → (place_of k top g).len ≤ 63
-place-few top g a b zero = omega arith
-place-few top g a b (suc zero) = omega arith
-place-few top g a b (suc (suc zero)) = omega arith
-place-few top g a b (suc (suc (suc zero))) = omega arith
-place-few top g a b (suc (suc (suc (suc zero)))) = omega arith
-place-few top g a b (suc (suc (suc (suc (suc k))))) = omega arith
+pub place-few : (g : G.Gathered) → Small g.first → Small g.latest → (k : ℕ) → (place_of k g).len ≤ 63
+place-few g a b zero = omega arith
+place-few g a b (suc zero) = omega arith
+place-few g a b (suc (suc zero)) = omega arith
+place-few g a b (suc (suc (suc zero))) = omega arith
+place-few g a b (suc (suc (suc (suc zero)))) = omega arith
+place-few g a b (suc (suc (suc (suc (suc k))))) = omega arith
 
 -- on the stack
-pub record Placed (st : List ℕ) (top : ℕ) (g : G.Gathered) (k : ℕ) : Type 0 where
-  pub is : run_at st (place_of k top g) ≡ piece_of k (shape_at st top g.first) (shape_at st g.at g.latest)
-  pub inside : Inside (place_of k top g) st
+pub record Placed (st : List ℕ) (g : G.Gathered) (k : ℕ) : Type 0 where
+  pub is : run_at st (place_of k g) ≡ piece_of k (shape_at st g.top g.first) (shape_at st g.at g.latest)
+  pub inside : Inside (place_of k g) st
 
-pub placed : {st : List ℕ} {top : ℕ} {g : G.Gathered} → Ready top g st → (k : ℕ) → Placed st top g k
+pub placed : {st : List ℕ} {g : G.Gathered} → Ready g st → (k : ℕ) → Placed st g k
 placed r zero = record { is = refl; inside = omega arith }
 placed r (suc zero) = record { is = refl; inside = omega arith }
 placed r (suc (suc zero)) = record { is = refl; inside = omega arith }
@@ -87,25 +81,25 @@ stands-run st r at e = go r.len refl (eqb r.len 0) refl e
     go n q true p h = let z = eqb-true r.len 0 p in rw z
     go n q false p h = let z = eqb-true r.at at h in rw z
 
-pub in_place : {st : List ℕ} {p : P.Plan} {top : ℕ} {g : G.Gathered} → Laying st p top g → p.product ≡ false → standing p.left top ≡ true → standing p.right (top + p.left.len) ≡ true
-    → st ≡ laid st top (sides_of st p top g)
+pub in_place : {st : List ℕ} {p : P.Plan} {g : G.Gathered} → Laying st p g → p.product ≡ false → standing p.left g.top ≡ true → standing p.right (g.top + p.left.len) ≡ true
+    → st ≡ laid st g.top (sides_of st p g)
 unfolding side_of
-in_place {st} {p} {top} {g} h n a b =
+in_place {st} {p} {g} h n a b =
     let l = run_length st p.left.at p.left.len h.left_inside in
     let r = run_length st p.right.at p.right.len h.right_inside in
     let k = rw (n, length-append (run_at st p.left) (run_at st p.right)) at h.few in
-    rw (n, stands-run st p.left top a, stands-run st p.right (top + p.left.len) b) (sym (laid_same st top p.left.len p.right.len (omega (arith, h.ready.room))))
+    rw (n, stands-run st p.left g.top a, stands-run st p.right (g.top + p.left.len) b) (sym (laid_same st g.top p.left.len p.right.len (omega (arith, h.ready.room))))
 
 -- one product of two that stand one behind the other
-pub inserted : {st : List ℕ} {p : P.Plan} {top : ℕ} {g : G.Gathered} → Laying st p top g → p.product ≡ true → standing p.left top ≡ true → p.left.len ≢ 0 → p.right.len ≡ 0
-    → g.at ≡ top + p.left.len
-    → laid st top (512 ∷ run st top (p.left.len + g.latest.left)) ≡ laid st top (sides_of st p top g)
+pub inserted : {st : List ℕ} {p : P.Plan} {g : G.Gathered} → Laying st p g → p.product ≡ true → standing p.left g.top ≡ true → p.left.len ≢ 0 → p.right.len ≡ 0
+    → g.at ≡ g.top + p.left.len
+    → laid st g.top (512 ∷ run st g.top (p.left.len + g.latest.left)) ≡ laid st g.top (sides_of st p g)
 unfolding side_of pair_of
-inserted {st} {p} {top} {g} h y s full right next =
+inserted {st} {p} {g} h y s full right next =
     let l = run_length st p.left.at p.left.len h.left_inside in
     let i = run_at st p.left in
-    let j = run_at st (place_of 3 top g) in
-    rw (y, pair-some i j (λ z. full (sym l ∙ z)), right, append-nil (i ++ j), stands-run st p.left top s, next, run-both st top p.left.len g.latest.left)
+    let j = run_at st (place_of 3 g) in
+    rw (y, pair-some i j (λ z. full (sym l ∙ z)), right, append-nil (i ++ j), stands-run st p.left g.top s, next, run-both st g.top p.left.len g.latest.left)
 
 -- one side behind the other, made apart
 pub record Made (ws out' : List ℕ) (e : ℕ) : Type 0 where
@@ -121,14 +115,18 @@ made {e = e} i j p q h =
     let m : e ≡ length (i ++ j) = omega arith in
     record { end = m; inside = omega (arith, a.size); is = rw m (rw z at (a.front (omega arith))) }
 
-pub sides_made : {st : List ℕ} {p : P.Plan} {top : ℕ} {g : G.Gathered} {out mid out' : List ℕ} {n e : ℕ} {q r : R.Run} → Laying st p top g → q ≡ place_of 3 top g → r ≡ place_of 4 top g → 126 ≤ length
+pub sides_made : {st : List ℕ} {p : P.Plan} {g : G.Gathered} {out mid out' : List ℕ} {n e : ℕ} {q r : R.Run} → Laying st p g → q ≡ place_of 3 g → r ≡ place_of 4 g → 126 ≤ length
     out
-    → Added out 0 (side_of p.product (run_at st p.left) (run_at st q)) mid n → Added mid n (side_of p.product (run_at st p.right) (run_at st r)) out' e → Made (sides_of st p top g) out' e
+    → Added out 0 (side_of p.product (run_at st p.left) (run_at st q)) mid n → Added mid n (side_of p.product (run_at st p.right) (run_at st r)) out' e → Made (sides_of st p g) out' e
 sides_made h x y l a b = let few = h.few in made _ _ (rw x at a) (rw y at b) (omega arith)
 
 -- the first leaves room
 pub made_room : {out mid : List ℕ} {n : ℕ} (i j : List ℕ) → Added out 0 i mid n → length (i ++ j) ≤ 126 → 126 < length out → n < length mid
 made_room i j a h k = omega (arith, a.end, a.size, length-append i j)
+
+-- what is appended is a run
+pub added-run : {out src xs out' : List ℕ} {at e : ℕ} → xs ≡ src → (e ≡ min (at + length xs) (length out + 1)) × (out' ≡ laid out at xs) → Added out at src out' e
+added-run x h = added _ _ _ _ _ (rw x at h.0) (rw x at h.1)
 
 module _ (st : List ℕ) (p q : R.Run) {out out' : List ℕ} {to e : ℕ} {product : Bool} where
   pub put-plain : (product ≡ false) ⊎ (p.len ≡ 0) → Added out to (run_at st p) out' e → Added out to (side_of product (run_at st p) (run_at st q)) out' e
@@ -150,13 +148,29 @@ module _ (st : List ℕ) (p q : R.Run) {out out' : List ℕ} {to e : ℕ} {produ
 
 -- ---- a plan
 -- a plan by its parts, as the code finds them
-pub plan_is : (h n : ℕ) (m : Bool) (top : ℕ) (g : G.Gathered) {rule rows columns : ℕ} {left right : R.Run} {fit well : Bool} {class : Class} → rule ≡ rule_at h → left ≡ left_at rule top g
-    → right ≡ right_at rule top g
-    → rows ≡ side_size (product rule) left.len g.latest.left → columns ≡ side_size (product rule) right.len g.latest.right → fit ≡ fitted h n g.first.class g.latest.class
-    → well ≡ (fit && (m && short_both (product rule) rows columns)) → class ≡ class_by (rule / 256 % 16) h g.first.class g.latest.class
-    → ◌≡◌ {A = P.Plan} (record { typed = well; sorted = record { class = class; left = rows; right = columns }; product = product rule; left = left; right = right }) (plan_of h n m top g)
-unfolding plan_of
-plan_is h n m top g a l r i j f w k = rw (w, k, f, j, i, r, l, a)
+module _ (h n : ℕ) (m : Bool) (g : G.Gathered) {rule rows columns : ℕ} {left right : R.Run} {fit well : Bool} (a : rule ≡ rule_at h) (l : left ≡ left_at rule g) (r : right ≡ right_at rule g)
+    (i : rows ≡ side_size (product rule) left.len g.latest.left) (j : columns ≡ side_size (product rule) right.len g.latest.right) (f : fit ≡ fitted h n g.first.class g.latest.class)
+    (w : well ≡ (fit && (m && short_both (product rule) rows columns))) where
+  well-is : well ≡ well_made h n m g
+  unfolding well_made
+  well-is = w ∙ rw (f, j, i, r, l, a)
+
+  pub plan_none : well ≡ false → None ≡ plan_of h n m g
+  unfolding plan_of
+  plan_none no' = rw (sym well-is ∙ no')
+
+  pub plan_some : well ≡ true → {class : Class} → class ≡ class_by (rule / 256 % 16) h g.first.class g.latest.class
+      → Some (record { sorted = record { class = class; left = rows; right = columns }; product = product rule; left = left; right = right }) ≡ plan_of h n m g
+  unfolding plan_of made_of
+  plan_some e k = rw (sym well-is ∙ e, k, j, i, r, l, a)
+
+plan-by : (b : Bool) (p q : P.Plan) → Some p ≡ cond b (Some q) None → (b ≡ true) × (p ≡ q)
+plan-by true p q e = (refl, cc)
+plan-by false p q e = (cc, cc)
+
+no_plan : (b : Bool) (q : P.Plan) → None ≡ cond b (Some q) None → b ≡ false
+no_plan true q e = cc
+no_plan false q e = refl
 
 few_by : (p : Bool) (k l m n : ℕ) → k ≤ 63 → l ≤ 63 → short_both p (side_size p k m) (side_size p l n) ≡ true → (side_size p k m ≤ 63) × (side_size p l n ≤ 63)
 unfolding short_both side_size
@@ -169,60 +183,59 @@ three true true s o = refl
 three true false s o = refl
 three false m s o = refl
 
-module _ (h n : ℕ) {top : ℕ} {g : G.Gathered} {st : List ℕ} (ready : Ready top g st) {m : Bool}
-    (meets : m ≡ met (rule_at h / 4096) (shape_at st top g.first) (shape_at st g.at g.latest) g.alike) where
+module _ (h n : ℕ) {g : G.Gathered} {st : List ℕ} (ready : Ready g st) {m : Bool}
+    (meets : m ≡ met (rule_at h / 4096) (shape_at st g.top g.first) (shape_at st g.at g.latest) g.alike) where
   abbrev rule : ℕ
   rule = rule_at h
 
-  abbrev plan : P.Plan
-  plan = plan_of h n m top g
-
   abbrev lefts : List ℕ
-  lefts = side_of (product rule) (run_at st (left_at rule top g)) (run_at st (place_of 3 top g))
+  lefts = side_of (product rule) (run_at st (left_at rule g)) (run_at st (place_of 3 g))
 
   abbrev rights : List ℕ
-  rights = side_of (product rule) (run_at st (right_at rule top g)) (run_at st (place_of 4 top g))
+  rights = side_of (product rule) (run_at st (right_at rule g)) (run_at st (place_of 4 g))
 
   abbrev class : Class
   class = class_by (rule / 256 % 16) h g.first.class g.latest.class
 
-  size_of : (k l : ℕ) → length (side_of (product rule) (run_at st (place_of k top g)) (run_at st (place_of l top g))) ≡ side_size (product rule) (place_of k top g).len (place_of l top g).len
+  size_of : (k l : ℕ) → length (side_of (product rule) (run_at st (place_of k g)) (run_at st (place_of l g))) ≡ side_size (product rule) (place_of k g).len (place_of l g).len
   size_of k l = side-size (product rule) _ _ ∙ rw (run_length st _ _ (placed ready k).inside, run_length st _ _ (placed ready l).inside)
 
-  planned : children_of h n (shape_at st top g.first) (shape_at st g.at g.latest) g.alike ≡ given plan.typed (some (shape class lefts rights))
-  unfolding children_of by_line shaped plan_of
+  planned : children_of h n (shape_at st g.top g.first) (shape_at st g.at g.latest) g.alike ≡ given (well_made h n m g) (some (shape class lefts rights))
+  unfolding children_of by_line shaped well_made
   planned =
       rw (← meets, ← (placed ready (rule / 16 % 16)).is, ← (placed ready (rule % 16)).is, size_of (rule / 16 % 16) 3, size_of (rule % 16) 4)
       (three (fitted h n g.first.class g.latest.class) m _ _)
 
-  module _ {p : P.Plan} (is : p ≡ plan_of h n m top g) where
-    pub rejects : p.typed ≡ false → Concludes h n top g st (record { typed = false; sorted = p.sorted }) st
-    rejects e =
-        let t : plan.typed ≡ false = sym (ap (λ (x : P.Plan). x.typed) is) ∙ e in
-        record { told = sym (planned ∙ rw t); small = λ y. not-both y refl; kept = above_refl top st }
+  pub rejects : None ≡ plan_of h n m g → Concludes h n g st None st
+  unfolding plan_of
+  rejects e = answers_none (planned ∙ rw (no_plan (well_made h n m g) _ e))
 
-    module _ (typed : p.typed ≡ true) where
-      typed_plan : plan.typed ≡ true
-      typed_plan = sym (ap (λ (x : P.Plan). x.typed) is) ∙ typed
+  module _ {p : P.Plan} (is : Some p ≡ plan_of h n m g) where
+    well : well_made h n m g ≡ true
+    unfolding plan_of
+    well = (plan-by (well_made h n m g) p _ is).0
 
-      sides-few : (rows_of rule top g ≤ 63) × (columns_of rule top g ≤ 63)
-      unfolding plan_of
-      sides-few =
-          let a = (and-eq-true_iff (fitted h n g.first.class g.latest.class) _).0 typed_plan in
-          let b = (and-eq-true_iff m _).0 a.1 in
-          few_by (product rule) _ _ _ _ (place-few top g ready.first ready.latest (rule / 16 % 16)) (place-few top g ready.first ready.latest (rule % 16)) b.1
+    made-is : p ≡ made_of h g
+    unfolding plan_of
+    made-is = (plan-by (well_made h n m g) p _ is).1
 
-      sides-length : length (lefts ++ rights) ≤ 126
-      sides-length = omega (arith, sides-few, length-append lefts rights, size_of (rule / 16 % 16) 3, size_of (rule % 16) 4)
+    sides-few : (rows_of rule g ≤ 63) × (columns_of rule g ≤ 63)
+    unfolding well_made
+    sides-few =
+        let a = (and-eq-true_iff (fitted h n g.first.class g.latest.class) _).0 well in
+        let b = (and-eq-true_iff m _).0 a.1 in
+        few_by (product rule) _ _ _ _ (place-few g ready.first ready.latest (rule / 16 % 16)) (place-few g ready.first ready.latest (rule % 16)) b.1
 
-      pub laying : Laying st p top g
-      unfolding plan_of
-      laying = rw is (record { ready = ready; left_inside = (placed ready (rule / 16 % 16)).inside; right_inside = (placed ready (rule % 16)).inside; few = sides-length })
+    sides-length : length (lefts ++ rights) ≤ 126
+    sides-length = omega (arith, sides-few, length-append lefts rights, size_of (rule / 16 % 16) 3, size_of (rule % 16) 4)
 
-      pub concludes : {st' : List ℕ} → st' ≡ laid st top (sides_of st p top g) → Concludes h n top g st (record { typed = true; sorted = p.sorted }) st'
-      unfolding plan_of
-      concludes l =
-          let b : top + length (lefts ++ rights) ≤ length st = omega (arith, sides-length, ready.room) in
-          let x = rw (size_of (rule / 16 % 16) 3, size_of (rule % 16) 4) at (shape-laid class st top lefts rights b) in
-          let s = sides-few in
-          rw (l, is) (record { told = ap some x ∙ sym (planned ∙ rw typed_plan); small = λ y. s; kept = above-laid st top (lefts ++ rights) b })
+    pub laying : Laying st p g
+    unfolding made_of
+    laying = rw made-is (record { ready = ready; left_inside = (placed ready (rule / 16 % 16)).inside; right_inside = (placed ready (rule % 16)).inside; few = sides-length })
+
+    pub concludes : {st' : List ℕ} → st' ≡ laid st g.top (sides_of st p g) → Concludes h n g st (Some p.sorted) st'
+    unfolding made_of
+    concludes l =
+        let b : g.top + length (lefts ++ rights) ≤ length st = omega (arith, sides-length, ready.room) in
+        let x = rw (size_of (rule / 16 % 16) 3, size_of (rule % 16) 4) at (shape-laid class st g.top lefts rights b) in
+        rw (l, made-is) (record { told = ap some x ∙ sym (planned ∙ rw well); small = sides-few; kept = above-laid st g.top (lefts ++ rights) b })

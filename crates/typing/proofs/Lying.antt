@@ -1,8 +1,13 @@
 -- Words on a stack: what stays and what changes when others are laid over it.
 use mathlib.Core.Path.{◌≡◌, refl, sym, ◌∙◌, ap}
 use mathlib.Core.Logic.{◌≢◌}
-use mathlib.Core.Bool.{Bool, true, false, ◌&&◌}
+use mathlib.Core.Bool.{false, ◌&&◌}
 use mathlib.Core.List.{List, [], ◌∷◌, ◌++◌, append_assoc}
+use mathlib.Core.Option.{Option, none as nothing}
+use Rattle.std.specs.Prelude.{None}
+use denote.Enum.Bare.{sameb}
+use denote.Enum.Declared.{tag_of}
+use lib.Dec.{eqb}
 use Prim.Native.Nat.{ℕ, zero, suc, ◌+◌, ◌≤◌, ◌<◌}
 use native.Mathlib.Numerals.{add-one}
 use native.Mathlib.Omega.{arith}
@@ -11,14 +16,27 @@ use lib.Seq.{take_all, length-take-le, take-nil, take-append_seam, drop-append_s
 use Rattle.words.specs.Words.{overlaid, same_words, laid}
 use Rattle.words.proofs.Runs.{same-both, same-lengths, laid_in}
 use Rattle.term.specs.declared.heads.Class.{Class}
+use Rattle.term.specs.declared.heads.Class.TheVariants.{Nothing, Index, Basis, Scalar, Ket, Bra, Operator, Array, Term}
+use Rattle.term.specs.contracts.heads.Class.{the_type}
 use Rattle.typing.specs.declared.sorts.Sorted as S
-use Rattle.typebook.specs.Code.Shapes.{shape}
-use Rattle.typing.specs.Code.Shapes.{run, shape_at, Small, Room, Above}
+use Rattle.typebook.specs.Code.Shapes.{Shape, shape, number_of}
+use Rattle.typing.specs.Code.Shapes.{run, shape_at, Small, Room, Above, Answers}
 
 -- ---- tests
--- what is both true and false
-pub not-both : {A : Type 0} {b : Bool} → b ≡ true → b ≡ false → A
-not-both y n = absurd (let z : ◌≡◌ {A = ℕ} 0 1 = cc in omega arith)
+-- classes as the code compares them: by their numbers
+number-is : (c : Class) → tag_of the_type c ≡ number_of c
+number-is Nothing = refl
+number-is Index = refl
+number-is Basis = refl
+number-is Scalar = refl
+number-is Ket = refl
+number-is Bra = refl
+number-is Operator = refl
+number-is Array = refl
+number-is Term = refl
+
+pub same_class : (a b : Class) → sameb the_type a b ≡ eqb (number_of a) (number_of b)
+same_class a b = rw (number-is a, number-is b)
 
 -- ---- runs
 -- as many words as are asked for, where there are
@@ -56,6 +74,10 @@ above_refl top st = record { long = refl; below = refl }
 
 pub above_trans : {top : ℕ} {st st' st'' : List ℕ} → Above top st st' → Above top st' st'' → Above top st st''
 above_trans p q = record { long = q.long ∙ p.long; below = q.below ∙ p.below }
+
+-- no sort
+pub answers_none : {o : Option Shape} {top : ℕ} {st : List ℕ} → o ≡ nothing → Answers o None top st st
+answers_none {top} {st} e = record { told = sym e; small = tt; kept = above_refl top st }
 
 -- what stays below an offset stays below a lower one
 pub above_lower : {low top : ℕ} {st st' : List ℕ} → low ≤ top → Above top st st' → Above low st st'

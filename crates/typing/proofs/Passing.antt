@@ -1,15 +1,13 @@
 -- Typing a part from left to right: the children passed so far, the whole part from them, and what it is found to be.
 use mathlib.Core.Path.{◌≡◌, refl, sym, ◌∙◌, ap}
-use mathlib.Core.Bool.{Bool, true, false, cond}
+use mathlib.Core.Bool.{Bool, cond}
 use mathlib.Core.List.{List, [], ◌∷◌, ◌++◌, append-nil}
-use mathlib.Core.Option.{some, none as nothing}
 use Prim.Native.Nat.{ℕ, ◌+◌, ◌-◌, ◌/◌, ◌≤◌, ◌<◌, max}
 use native.Mathlib.Omega.{arith}
 use lib.Dec.{eqb}
 use lib.ListN.{length, drop, get_or, length-append, length-drop}
 use lib.Seq.{drop-drop}
 use Rattle.term.specs.Heads.{Label, heads, labelled, reading, read, arity_of}
-use Rattle.term.specs.declared.heads.Arity.TheVariants.{Unknown, Children}
 use Rattle.term.specs.Trees.{Tree, Forest, node, none, ◌▹◌, count, ◌⧺◌, words, words*, depth, depth*}
 use Rattle.term.specs.Parts.{parse, tree_in, first, first_depth, part, part_depth}
 use Rattle.term.proofs.Parsing.{⧺-assoc, count-⧺, words*-⧺, some_words, Grown, unread-word, words-short, planted, grown, parse-node}
@@ -18,12 +16,12 @@ use Rattle.term.proofs.Scan.{read_children, read-unknown}
 use Rattle.types.specs.Sorts.{Sort, Context}
 use Rattle.types.specs.Inside.{binds, behind_first, later}
 use Rattle.types.specs.TypeOf.{Conclusion, fails, gives, conclude, typed, untyped, sorts, decide, close, type_of, types_of}
-use Rattle.typing.specs.declared.sorts.Outcome as O
-use Rattle.typing.specs.declared.infer.Verdict as Answer
-use Rattle.typebook.specs.Code.Shapes.{Shape, given}
+use Rattle.std.specs.Prelude.{Option as CodeOption, Some, None, Result, Err}
+use Rattle.typing.specs.declared.sorts.Sorted as S
+use Rattle.typing.specs.declared.infer.Part as P
 use Rattle.typing.specs.Code.Shapes.{Above, Answers}
 use Rattle.typebook.specs.Code.Lines.{concluded}
-use Rattle.typing.specs.Code.Verdicts.{refusal, settlement, Unsettled, Found}
+use Rattle.typing.specs.Code.Verdicts.{settlement, Unsettled, Found}
 use Rattle.typing.proofs.Lying.{above_trans, above_lower}
 use Rattle.types.proofs.Labels.{binds-word}
 use Rattle.types.proofs.Walk.{typed_at, untyped-at, next_in, types_more, types_fail, next_child}
@@ -132,67 +130,44 @@ module _ {Γ : Context} {b : Bool} {ws : List ℕ} {next k deepest : ℕ} {list 
     whole-type = rw (tree_is whole, later-is Γ l p.children binding, p.sorted)
 
 -- ---- what is answered
-given-none : (b : Bool) (x : Shape) → given b (some x) ≡ nothing → b ≡ false
-given-none true x e = cc
-given-none false x e = refl
-
-given-some : (b : Bool) (x y : Shape) → given b (some x) ≡ some y → (b ≡ true) × (x ≡ y)
-given-some true x y e = (refl, cc)
-given-some false x y e = (cc, cc)
-
 module _ {Γ : Context} {b : Bool} {ws : List ℕ} {budget top next k deepest : ℕ} {list : List Sort} {st st' : List ℕ} (p : Passed Γ b ws next k deepest list) (shallow : deepest < budget)
     (l : Label) (reads : read (get_or ws 0 0) ≡ labelled l k) (binding : binds l ≡ b) (some : 0 < length ws) where
-  settled_by : (c : Conclusion) → conclude Γ l list ≡ c → {o : O.Outcome} → Answers (concluded c) o top st st'
+  settled_by : (c : Conclusion) → conclude Γ l list ≡ c → {o : CodeOption S.Sorted} → Answers (concluded c) o top st st'
       → Found Γ ws budget top (settlement next (deepest + 1) o) st st'
   unfolding decide
-  settled_by fails e {o} a =
-      let n = given-none o.typed _ a.told in
-      record { kept = a.kept; bound = omega arith; settled = λ h. absurd (let z : ◌≡◌ {A = ℕ} 0 1 = cc in omega arith); unsettled = λ h w s. whole-type p l reads binding some ∙ rw e }
-  settled_by (gives S) e {o} a =
-      let y = given-some o.typed _ _ a.told in
+  settled_by fails e {o = None} a = record { kept = a.kept; told = record { inside = omega arith; is = λ w s. whole-type p l reads binding some ∙ rw e } }
+  settled_by fails e {o = Some s} a = absurd (let t = a.told in let z : ◌≡◌ {A = ℕ} 0 1 = cc in omega arith)
+  settled_by (gives S) e {o = None} a = absurd (let t = a.told in let z : ◌≡◌ {A = ℕ} 0 1 = cc in omega arith)
+  settled_by (gives S) e {o = Some s} a =
+      let t = a.told in
       let n = whole-size p l reads binding some in
       let d = whole-depth p l reads binding some in
       record {
         kept = a.kept;
-        bound = omega arith;
-        settled = λ h. record {
+        told = record {
           sort = S;
           whole = let q = p.place in omega arith;
           is = whole-type p l reads binding some ∙ rw e;
           size = n;
           depth = d;
           shallow = omega arith;
-          small = a.small h;
-          sorted = y.1;
+          small = a.small;
+          sorted = cc;
         };
-        unsettled = λ h. absurd (let x = y.0 in let z : ◌≡◌ {A = ℕ} 0 1 = cc in omega arith);
       }
 
-  pub settles : {o : O.Outcome} → Answers (concluded (conclude Γ l list)) o top st st' → {r : Answer.Verdict}
+  pub settles : {o : CodeOption S.Sorted} → Answers (concluded (conclude Γ l list)) o top st st' → {r : Result P.Part ℕ}
       → r ≡ settlement next (deepest + 1) o → Found Γ ws budget top r st st'
   settles a is = rw is (settled_by (conclude Γ l list) refl a)
 
   -- no rule at all
-  pub settles_none : conclude Γ l list ≡ fails → Above top st st' → {r : Answer.Verdict} → r ≡ refusal 0 → Found Γ ws budget top r st st'
+  pub settles_none : conclude Γ l list ≡ fails → Above top st st' → Found Γ ws budget top (Err 0) st st'
   unfolding decide
-  settles_none e a is =
-      rw is (record {
-        kept = a;
-        bound = omega arith;
-        settled = λ h. absurd (let z : ◌≡◌ {A = ℕ} 0 1 = cc in omega arith);
-        unsettled = λ h w s. whole-type p l reads binding some ∙ rw e;
-      })
+  settles_none e a = record { kept = a; told = record { inside = omega arith; is = λ w s. whole-type p l reads binding some ∙ rw e } }
 
 -- no part at all
-pub found_none : {Γ : Context} {ws : List ℕ} {budget top : ℕ} {st : List ℕ} {r : Answer.Verdict} → r ≡ refusal 0 → (0 < length (part ws 0) → part_depth ws 0 ≤ budget → ⊥)
-    → Found Γ ws budget top r st st
-found_none {r} is never =
-    record {
-      kept = record { long = refl; below = refl };
-      bound = let z = ap (λ (v : Answer.Verdict). v.at) is in omega arith;
-      settled = λ h. absurd (let z : ◌≡◌ {A = ℕ} 0 1 = cc in omega arith);
-      unsettled = λ h w s. absurd (never w s);
-    }
+pub found_none : {Γ : Context} {ws : List ℕ} {budget top : ℕ} {st : List ℕ} → (0 < length (part ws 0) → part_depth ws 0 ≤ budget → ⊥) → Found Γ ws budget top (Err 0) st st
+found_none never = record { kept = record { long = refl; below = refl }; told = record { inside = omega arith; is = λ w s. absurd (never w s) } }
 
 -- ---- an untyped child
 -- a whole part's word and children
@@ -216,12 +191,12 @@ root [] h = absurd (omega arith)
 root (w ∷ vs) h = root_by refl refl h (grown w vs)
 
 -- no word is a head's with children, or a leaf's, where there is none
-pub some_word : (ws : List ℕ) {n : ℕ} → arity_of (get_or ws 0 0) ≡ Children n → 0 < length ws
+pub some_word : (ws : List ℕ) {n : ℕ} → arity_of (get_or ws 0 0) ≡ Some n → 0 < length ws
 unfolding arity_of read heads reading
 some_word [] e = absurd (let z : ◌≡◌ {A = ℕ} 0 1 = cc in omega arith)
 some_word (w ∷ ws) e = omega arith
 
-pub no_head : (ws : List ℕ) → arity_of (get_or ws 0 0) ≡ Unknown → 0 < length (part ws 0) → ⊥
+pub no_head : (ws : List ℕ) → arity_of (get_or ws 0 0) ≡ None → 0 < length (part ws 0) → ⊥
 no_head ws e h = let R = root ws h in let r = read-unknown (get_or ws 0 0) e in let q = R.reads in let z : ◌≡◌ {A = ℕ} 0 1 = cc in omega arith
 
 -- a part is at least 1 deep
@@ -239,8 +214,8 @@ fail_at Γ b l cs f t {j} binding are at s u =
     rw (are, z, later-is Γ l all binding, fails, at)
 
 module _ {Γ : Context} {b : Bool} {ws : List ℕ} {budget next k n deepest : ℕ} {list : List Sort} (p : Passed Γ b ws next k deepest list) (binding : b ≡ eqb (get_or ws 0 0 / 256) 27)
-    (wants : arity_of (get_or ws 0 0) ≡ Children n) (less : k < n) (child : Answer.Verdict) (found : Unsettled (next_at b Γ p.children) (drop next ws) (budget - 1) child) where
-  pub child-fails : 0 < length (part ws 0) → part_depth ws 0 ≤ budget → type_of Γ 0 (tree_in (parse ws)) ≡ untyped (next + child.at)
+    (wants : arity_of (get_or ws 0 0) ≡ Some n) (less : k < n) {j : ℕ} (found : Unsettled (next_at b Γ p.children) (drop next ws) (budget - 1) j) where
+  pub child-fails : 0 < length (part ws 0) → part_depth ws 0 ≤ budget → type_of Γ 0 (tree_in (parse ws)) ≡ untyped (next + j)
   unfolding part_depth first_depth depth
   child-fails h s =
       let R = root ws h in
@@ -252,19 +227,17 @@ module _ {Γ : Context} {b : Bool} {ws : List ℕ} {budget next k n deepest : �
       let v : First (drop next ws) = record { tree = t; others = _; is = c.3 } in
       let d : depth* R.kids < budget = let e = ap first_depth R.is in omega arith in
       let f = ap depth* c.2 ∙ depth*-⧺ p.children (t ▹ c.1) in
-      let u = sym (ap (type_of (next_at b Γ p.children) 0) (tree_is v)) ∙ found (let e = part-is v in omega (arith, some_words t)) (let e = depth_is v in omega arith) in
+      let u = sym (ap (type_of (next_at b Γ p.children) 0) (tree_is v)) ∙ found.is (let e = part-is v in omega (arith, some_words t)) (let e = depth_is v in omega arith) in
       tree-at R.is ∙ fail_at Γ b R.label p.children c.1 t (binds-word _ _ _ R.reads ∙ sym binding) c.2 p.place p.sorted u
     where
       tree-at : {t : Tree} {f : Forest} → parse ws ≡ t ▹ f → type_of Γ 0 (tree_in (parse ws)) ≡ type_of Γ 0 t
       tree-at {t} {f} e = ap (type_of Γ 0) (tree_is {ws = ws} (record { tree = t; others = f; is = e }))
 
-pub found-child : {Γ : Context} {b : Bool} {ws : List ℕ} {budget top free next k n deepest : ℕ} {list : List Sort} {st mid st' : List ℕ} {r : Answer.Verdict} (p : Passed Γ b ws next k deepest list)
-    → b ≡ eqb (get_or ws 0 0 / 256) 27 → arity_of (get_or ws 0 0) ≡ Children n → k < n → next ≤ length ws → (child : Answer.Verdict) → Above top st mid → top ≤ free
-    → Found (next_at b Γ p.children) (drop next ws) (budget - 1) free child mid st' → child.typed ≡ false → r ≡ refusal (next + child.at) → Found Γ ws budget top r st st'
-found-child {ws} {next} p binding wants less inside child a h f no' is =
+pub found-child : {Γ : Context} {b : Bool} {ws : List ℕ} {budget top free next k n deepest j : ℕ} {list : List Sort} {st mid st' : List ℕ} (p : Passed Γ b ws next k deepest list)
+    → b ≡ eqb (get_or ws 0 0 / 256) 27 → arity_of (get_or ws 0 0) ≡ Some n → k < n → next ≤ length ws → Above top st mid → top ≤ free
+    → Found (next_at b Γ p.children) (drop next ws) (budget - 1) free (Err j) mid st' → Found Γ ws budget top (Err (next + j)) st st'
+found-child {ws} {next} p binding wants less inside a h f =
     record {
       kept = above_trans a (above_lower h f.kept);
-      bound = let z = ap (λ (v : Answer.Verdict). v.at) is in let b = f.bound in let d = length-drop next ws in omega arith;
-      settled = λ y. absurd (let z : ◌≡◌ {A = ℕ} 0 1 = cc in omega arith);
-      unsettled = λ y w s. child-fails p binding wants less child (f.unsettled no') w s ∙ ap untyped (sym (ap (λ (v : Answer.Verdict). v.at) is));
+      told = record { inside = let b = f.told.inside in let d = length-drop next ws in omega arith; is = child-fails p binding wants less f.told };
     }

@@ -3,10 +3,11 @@ use mathlib.Core.Path.{◌≡◌, refl, ◌∙◌, ap}
 use mathlib.Core.Bool.{Bool, true, false, cond}
 use mathlib.Core.Logic.{◌≢◌}
 use mathlib.Core.List.{List, [], ◌∷◌, ◌++◌}
-use mathlib.Core.Option.{Option, some}
-use Prim.Native.Nat.{ℕ, zero, suc, ◌+◌, ◌/◌, ◌%◌, ◌≤◌, ◌<◌}
+use mathlib.Core.Option.{Option, some, none as nothing}
+use Rattle.std.specs.Prelude.{Option as CodeOption, Some, None}
+use Prim.Native.Nat.{ℕ, zero, suc, ◌+◌, ◌/◌, ◌%◌, ◌≤◌, ◌<◌, min}
 use native.Mathlib.Omega.{arith}
-use borrow.Author.Tests.{eq-eqb, ne_eqb, ltb-true}
+use borrow.Author.Tests.{eq-eqb, ne_eqb, ltb-true, lt-ltb, le-ltb}
 use lib.Dec.{eqb, ltb}
 use lib.ListN.{length, get_or, set, length-append}
 use Rattle.words.specs.Words.{laid}
@@ -16,13 +17,13 @@ use Rattle.types.specs.Sorts.{basis}
 use Rattle.declarations.specs.Declarations.{size, basis_at, variable_at, basis_in, variable_in, good_declarations}
 use Rattle.declarations.proofs.Entries.{declarations, basis_len, kind, first_len, second_len, basis_good, basis_room, variable_good, variable_room, kind_0, kind_1, kind_2, kind_3}
 use Rattle.typing.specs.declared.sorts.Run as R
-use Rattle.typing.specs.declared.sorts.Outcome as O
+use Rattle.typing.specs.declared.sorts.Sorted as S
 use Rattle.typing.specs.declared.lookup.Entry as E
 use Rattle.typebook.specs.Code.Shapes.{Shape, shape, shape_of, given}
 use Rattle.typing.specs.Code.Shapes.{shape_at, run_at, Inside, Small, Room, plain, Answers}
 use Rattle.typing.specs.Code.Conclude.{run_of}
 use Rattle.typing.specs.Code.Verdicts.{bound_shape, sorted_by, bare_entry, basis_entry, variable_entry, entry_of, leaf_of}
-use Rattle.typing.proofs.Lying.{run_length, above-laid, laid_both, shape-laid, set-laid}
+use Rattle.typing.proofs.Lying.{run_length, above-laid, answers_none, laid_both, shape-laid, set-laid}
 
 -- ---- where an entry lies, and that its indices are short
 pub good-size : (ds : List ℕ) → good_declarations ds ≡ true → length ds ≡ size
@@ -42,8 +43,12 @@ module _ (ds : List ℕ) (l r : R.Run) (h : Two ds l r) (top : ℕ) (st : List �
   bound : top + length (run_at ds l) + length (run_at ds r) ≤ length st
   bound = omega (arith, run_length ds l.at l.len h.0, run_length ds r.at r.len h.1)
 
-  pub both-put : {mid st' : List ℕ} → mid ≡ laid st top (run_at ds l) → st' ≡ laid mid (top + l.len) (run_at ds r) → st' ≡ laid st top (run_at ds l ++ run_at ds r)
-  both-put e f = let both = rw (run_length ds l.at l.len h.0) at (laid_both st top (run_at ds l) (run_at ds r) bound) in f ∙ rw e both
+  pub both-put : {mid st' xs ys : List ℕ} {e : ℕ} → xs ≡ run_at ds l → ys ≡ run_at ds r → (e ≡ min (top + length xs) (length st + 1)) × (mid ≡ laid st top xs) → st' ≡ laid mid e ys
+      → st' ≡ laid st top (run_at ds l ++ run_at ds r)
+  both-put {e} x y a f =
+      let q = rw x at a.0 in
+      let z : e ≡ top + length (run_at ds l) = omega (arith, bound) in
+      f ∙ rw (a.1, z, x, y) (laid_both st top (run_at ds l) (run_at ds r) bound)
 
   fits : top + length (run_at ds l ++ run_at ds r) ≤ length st
   fits = omega (arith, bound, length-append (run_at ds l) (run_at ds r))
@@ -55,10 +60,14 @@ module _ (ds : List ℕ) (l r : R.Run) (h : Two ds l r) (top : ℕ) (st : List �
 pub record Holds (ds : List ℕ) (o : Option Shape) (e : E.Entry) : Type 0 where
   pub two : Two ds e.left e.right
   pub small : Small e.sorted
-  pub is : (top : ℕ) (st : List ℕ) → Room top st → given e.typed (some (shape_at (laid st top (run_at ds e.left ++ run_at ds e.right)) top e.sorted)) ≡ o
+  pub is : (top : ℕ) (st : List ℕ) → Room top st → some (shape_at (laid st top (run_at ds e.left ++ run_at ds e.right)) top e.sorted) ≡ o
 
-bare-holds : (ds : List ℕ) (b : Bool) → Holds ds (given b (some (shape Scalar [] []))) (bare_entry b)
-bare-holds ds b = record { two = (omega arith, omega arith, omega arith, omega arith); small = (omega arith, omega arith); is = λ top st h. refl }
+abbrev pub Holding : List ℕ → Option Shape → CodeOption E.Entry → Type 0
+Holding ds o None = o ≡ nothing
+Holding ds o (Some e) = Holds ds o e
+
+bare-holds : (ds : List ℕ) → Holds ds (some (shape Scalar [] [])) bare_entry
+bare-holds ds = record { two = (omega arith, omega arith, omega arith, omega arith); small = (omega arith, omega arith); is = λ top st h. refl }
 
 basis_holds : (ds : List ℕ) (a : ℕ) → (good_declarations ds ≡ true) × (a < get_or ds 1 0) → Holds ds (some (shape_of (basis (basis_in ds a)))) (basis_entry ds a)
 unfolding basis_entry basis_in
@@ -108,40 +117,43 @@ module _ (ds : List ℕ) (a : ℕ) (h : (good_declarations ds ≡ true) × (a < 
   variable_holds = record { two = both; small = small_by (kind ds a); is = λ top st r. ap some (shape_by (kind ds a) refl top st r) }
 
 -- by the word
-pub entry-holds : (ds : List ℕ) (bs : List Tree) (w : ℕ) → good_declarations ds ≡ true → w / 256 ≢ 1 → w / 256 ≢ 28 → Holds ds (leaf_of ds bs w) (entry_of ds w)
+pub entry-holds : (ds : List ℕ) (bs : List Tree) (w : ℕ) → good_declarations ds ≡ true → w / 256 ≢ 1 → w / 256 ≢ 28 → Holding ds (leaf_of ds bs w) (entry_of ds w)
 unfolding entry_of leaf_of
 entry-holds ds bs w g n m = rw (ne_eqb (w / 256) 1 n, ne_eqb (w / 256) 28 m) (go (eqb (w / 256) 3) (ltb (w % 256) (get_or ds 1 0)) (eqb (w / 256) 26) (ltb (w % 256) (get_or ds 2 0)) refl refl)
   where
     go : (b c d e : Bool) → ltb (w % 256) (get_or ds 1 0) ≡ c → ltb (w % 256) (get_or ds 2 0) ≡ e
-        → Holds ds (cond b (given c (some (shape_of (basis (basis_in ds (w % 256)))))) (cond d (given e (some (shape_of (variable_in ds (w % 256))))) (some (shape Scalar [] []))))
-        (cond b (cond c (basis_entry ds (w % 256)) (bare_entry false)) (cond d (cond e (variable_entry ds (w % 256)) (bare_entry false)) (bare_entry true)))
+        → Holding ds (cond b (given c (some (shape_of (basis (basis_in ds (w % 256)))))) (cond d (given e (some (shape_of (variable_in ds (w % 256))))) (some (shape Scalar [] []))))
+        (cond b (cond c (Some (basis_entry ds (w % 256))) None) (cond d (cond e (Some (variable_entry ds (w % 256))) None) (Some bare_entry)))
     go true true d e p q = basis_holds ds (w % 256) (g, ltb-true _ _ p)
-    go true false d e p q = bare-holds ds false
+    go true false d e p q = refl
     go false c true true p q = variable_holds ds (w % 256) (g, ltb-true _ _ q)
-    go false c true false p q = bare-holds ds false
-    go false c false e p q = bare-holds ds true
+    go false c true false p q = refl
+    go false c false e p q = bare-holds ds
 
 -- ---- answers
-pub leaf_put : (ds : List ℕ) {o : Option Shape} {k : E.Entry} (e : E.Entry) {top : ℕ} {st st' : List ℕ} → e ≡ k → Holds ds o k → Room top st
-    → st' ≡ laid st top (run_at ds e.left ++ run_at ds e.right)
-    → Answers o (record { typed = e.typed; sorted = e.sorted }) top st st'
-leaf_put ds {k = k} e {top} {st} is h r l =
-    rw (l, is) (record { told = h.is top st r; small = λ y. h.small; kept = above-laid st top (run_at ds k.left ++ run_at ds k.right) (fits ds k.left k.right h.two top st r) })
+pub leaf_put : (ds : List ℕ) {o : Option Shape} (e : E.Entry) {top : ℕ} {st st' : List ℕ} → Holds ds o e → Room top st → st' ≡ laid st top (run_at ds e.left ++ run_at ds e.right)
+    → Answers o (Some e.sorted) top st st'
+leaf_put ds e {top} {st} h r l =
+    rw l (record { told = h.is top st r; small = h.small; kept = above-laid st top (run_at ds e.left ++ run_at ds e.right) (fits ds e.left e.right h.two top st r) })
 
--- one word
-pub word-put : (ds : List ℕ) (bs : List Tree) (w : ℕ) (st : List ℕ) (top : ℕ) → w / 256 ≡ 1 → Room top st
-    → Answers (leaf_of ds bs w) (record { typed = ltb (w % 256) (get_or ds 0 0); sorted = record { class = Index; left = 1; right = 0 } }) top st (set st top w)
+-- one word: a type's name is an index, where it is declared
+pub word-none : (ds : List ℕ) (bs : List Tree) (w : ℕ) (st : List ℕ) (top : ℕ) → w / 256 ≡ 1 → get_or ds 0 0 ≤ w % 256 → Answers (leaf_of ds bs w) None top st st
 unfolding leaf_of
-word-put ds bs w st top e h =
+word-none ds bs w st top e h = rw (eq-eqb (w / 256) 1 e, le-ltb _ _ h) (answers_none refl)
+
+pub word-put : (ds : List ℕ) (bs : List Tree) (w : ℕ) (st : List ℕ) (top : ℕ) → w / 256 ≡ 1 → w % 256 < get_or ds 0 0 → Room top st
+    → Answers (leaf_of ds bs w) (Some (record { class = Index; left = 1; right = 0 })) top st (set st top w)
+unfolding leaf_of
+word-put ds bs w st top e h r =
     let b : top + 1 ≤ length st = omega arith in
-    rw (eq-eqb (w / 256) 1 e, set-laid st top w (omega arith)) (record {
-      told = ap (λ (s : Shape). given (ltb (w % 256) (get_or ds 0 0)) (some s)) (shape-laid Index st top (w ∷ []) [] b);
-      small = λ y. (omega arith, omega arith);
+    rw (eq-eqb (w / 256) 1 e, lt-ltb _ _ h, set-laid st top w (omega arith)) (record {
+      told = ap some (shape-laid Index st top (w ∷ []) [] b);
+      small = (omega arith, omega arith);
       kept = above-laid st top (w ∷ []) b;
     })
 
 -- a bound basis: its sum stands for as many words as its record says
-pub bound-put : (ds : List ℕ) (bs : List Tree) (w : ℕ) {r : O.Outcome} {top : ℕ} {st st' : List ℕ} → w / 256 ≡ 28 → Answers (bound_shape (get_or ds 0 0) (w % 256) bs) r top st st'
+pub bound-put : (ds : List ℕ) (bs : List Tree) (w : ℕ) {r : CodeOption S.Sorted} {top : ℕ} {st st' : List ℕ} → w / 256 ≡ 28 → Answers (bound_shape (get_or ds 0 0) (w % 256) bs) r top st st'
     → Answers (leaf_of ds bs w) r top st st'
 unfolding leaf_of
 bound-put ds bs w e a = rw (e) a

@@ -12,7 +12,6 @@ use lib.ListN.{length, drop, get_or, length-append, length-drop}
 use lib.Seq.{drop-drop, get_or-drop}
 use Rattle.words.specs.Listed.{or_else}
 use Rattle.term.specs.Heads.{arity_of}
-use Rattle.term.specs.declared.heads.Arity.TheVariants.{Unknown, Children}
 use Rattle.term.specs.Trees.{Tree, Forest, node, none, ◌▹◌, count, ◌⧺◌, words, words*, depth, depth*}
 use Rattle.term.specs.Parts.{parse, tree_in, first, first_depth, part, part_depth}
 use Rattle.term.proofs.Parsing.{⧺-none, ⧺-assoc, count-⧺, words*-⧺, some_words}
@@ -21,10 +20,9 @@ use Rattle.term.proofs.Scan.{read_children, read-unknown}
 use Rattle.types.specs.Strays.{stray_of, strays_of}
 use Rattle.types.proofs.Labels.{binds-word, stray-word}
 use Rattle.types.proofs.Walk.{next_in, next_same}
-use Rattle.typing.specs.declared.strays.Stray as S
+use Rattle.std.specs.Prelude.{Option as CodeOption, Some, None, Result, Ok, Err}
 use Rattle.typing.specs.Code.Chains.{enters_at, ninth}
-use Rattle.typing.specs.Code.Strays.{stray_word, bodies_in, Told, Looked}
-use Rattle.typing.proofs.Lying.{not-both}
+use Rattle.typing.specs.Code.Strays.{stray_word, bodies_in, Told, Inside, Looked}
 use Rattle.typing.proofs.Passing.{First, tree_is, Root, root, some_word}
 
 -- ---- a row of children
@@ -110,7 +108,7 @@ module _ (ws : List ℕ) (at bodies : ℕ) (R : Root (drop at ws)) where
 
 -- ---- one more child
 -- of a part whose children are so many
-count-kids : {vs : List ℕ} {n : ℕ} (R : Root vs) → arity_of (get_or vs 0 0) ≡ Children n → n ≡ count R.kids
+count-kids : {vs : List ℕ} {n : ℕ} (R : Root vs) → arity_of (get_or vs 0 0) ≡ Some n → n ≡ count R.kids
 count-kids R wants = let q = read_children _ _ wants in cc (q.1, R.reads)
 
 next_kid : (done rest kids : Forest) → kids ≡ done ⧺ rest → count done < count kids → (t : Tree) × (more : Forest) × (rest ≡ t ▹ more)
@@ -132,7 +130,7 @@ next_depth : (ws : List ℕ) (next : ℕ) (c : First (drop next ws)) → part_de
 unfolding part_depth first_depth
 next_depth ws next c = rw c.is
 
-module _ {ws : List ℕ} {at bodies next k n : ℕ} {R : Root (drop at ws)} (p : Past ws at bodies next k R) (wants : arity_of (get_or (drop at ws) 0 0) ≡ Children n) (less : k < n) where
+module _ {ws : List ℕ} {at bodies next k n : ℕ} {R : Root (drop at ws)} (p : Past ws at bodies next k R) (wants : arity_of (get_or (drop at ws) 0 0) ≡ Some n) (less : k < n) where
   record Turn : Type 0 where
     pub child : First (drop next ws)
     pub others : Forest
@@ -156,26 +154,27 @@ module _ {ws : List ℕ} {at bodies next k n : ℕ} {R : Root (drop at ws)} (p :
   later = behind_first (get_or (drop at ws) 0 0) bodies
 
   -- what is asked of it, and told
-  module _ {r : S.Stray} {m budget : ℕ} (e : m ≡ bodies_in (get_or (drop at ws) 0 0) k bodies) (l : Looked ws next m budget r) (deep : depth* R.kids ≤ budget) where
-    kid_told : Told ws next (next_in bodies later p.done) r
-    kid_told =
+  module _ {m budget : ℕ} (e : m ≡ bodies_in (get_or (drop at ws) 0 0) k bodies) (deep : depth* R.kids ≤ budget) where
+    kid_told : {r : Result ℕ ℕ} → Looked ws next m budget r → Told ws next (next_in bodies later p.done) r
+    kid_told l =
         let c = turn.child in
         let d = turn.shallow in
         rw (← bodies_next _ bodies k p.done p.number, ← e) (l.told (omega (arith, next_part ws next c, some_words c.tree)) (omega (arith, next_depth ws next c)))
 
-    found_in : r.found ≡ true → strays_of bodies later (at + 1) R.kids ≡ some r.at
+    found_in : {j : ℕ} → Looked ws next m budget (Err j) → strays_of bodies later (at + 1) R.kids ≡ some j
     unfolding or_else
-    found_in y =
+    found_in l =
         let c = turn.child in
         rw (p.kids, turn.rest, strays_next bodies later (at + 1) p.done turn.others c.tree p.nowhere, ← p.place)
-        (rw (sym (ap (stray_of (next_in bodies later p.done) next) (tree_is c)) ∙ kid_told.one y))
+        (rw (sym (ap (stray_of (next_in bodies later p.done) next) (tree_is c)) ∙ kid_told l))
 
-    past_more : r.found ≡ false → Past ws at bodies r.at (k + 1) R
+    past_more : {end : ℕ} → Looked ws next m budget (Ok end) → Past ws at bodies end (k + 1) R
     unfolding ◌⧺◌ count words or_else stray_of
-    past_more y =
+    past_more {end} l =
         let c = turn.child in
         let t = c.tree in
-        let e : r.at ≡ next + length (words t) = kid_told.end y ∙ ap (λ (n : ℕ). next + n) (next_part ws next c) in
+        let told = kid_told l in
+        let e : end ≡ next + length (words t) = told.1 ∙ ap (λ (n : ℕ). next + n) (next_part ws next c) in
         let number = p.number in
         let place = p.place in
         record {
@@ -185,15 +184,18 @@ module _ {ws : List ℕ} {at bodies next k n : ℕ} {R : Root (drop at ws)} (p :
           number = omega (arith, count-⧺ p.done (t ▹ none));
           place = rw (e, words*-⧺, append-nil) (simp length-append (omega arith));
           behind = rw e (rw drop-drop at (parse-behind (drop next ws) t (turn.others ⧺ R.others) (p.behind ∙ ap (λ (g : Forest). g ⧺ R.others) turn.rest)));
-          nowhere = strays_next bodies later (at + 1) p.done none t p.nowhere ∙ rw (← p.place, sym (ap (stray_of (next_in bodies later p.done) next) (tree_is c)) ∙ kid_told.no_one y);
+          nowhere = strays_next bodies later (at + 1) p.done none t p.nowhere ∙ rw (← p.place, sym (ap (stray_of (next_in bodies later p.done) next) (tree_is c)) ∙ told.0);
         }
 
 -- ---- what is answered
 -- of the first word: how many children it wants, and whether its part is a stray one
 pub record Headed (ws : List ℕ) (at bodies word n : ℕ) (b : Bool) : Type 0 where
   pub word-is : word ≡ get_or ws at 0
-  pub wants : arity_of word ≡ Children n
+  pub wants : arity_of word ≡ Some n
   pub test : b ≡ stray_word word bodies
+
+pub headed : {ws : List ℕ} {at bodies word n : ℕ} {b : Bool} {a : CodeOption ℕ} → word ≡ get_or ws at 0 → a ≡ arity_of word → a ≡ Some n → b ≡ stray_word word bodies → Headed ws at bodies word n b
+headed w a c b = record { word-is = w; wants = sym a ∙ c; test = b }
 
 word-there : (ws : List ℕ) (at : ℕ) → get_or (drop at ws) 0 0 ≡ get_or ws at 0
 word-there ws at = let z : at + 0 ≡ at = omega arith in get_or-drop at ws 0 0 ∙ ap (λ (i : ℕ). get_or ws i 0) z
@@ -202,7 +204,7 @@ module _ {ws : List ℕ} {at bodies word n : ℕ} {b : Bool} (h : Headed ws at b
   there : get_or (drop at ws) 0 0 ≡ word
   there = word-there ws at ∙ sym h.word-is
 
-  wants_there : arity_of (get_or (drop at ws) 0 0) ≡ Children n
+  wants_there : arity_of (get_or (drop at ws) 0 0) ≡ Some n
   wants_there = rw there h.wants
 
   test_there : b ≡ stray_word (get_or (drop at ws) 0 0) bodies
@@ -217,44 +219,38 @@ Passing ws at bodies budget next k = (R : Root (drop at ws)) → depth* R.kids <
 
 module _ {ws : List ℕ} {at bodies budget : ℕ} where
   -- from what is known of the root
-  by_root : {r : S.Stray} → r.at ≤ length ws → ((R : Root (drop at ws)) → depth* R.kids < budget → Told ws at bodies r) → Looked ws at bodies budget r
+  by_root : {r : Result ℕ ℕ} → Inside ws r → ((R : Root (drop at ws)) → depth* R.kids < budget → Told ws at bodies r) → Looked ws at bodies budget r
   unfolding part
   by_root h t = record { inside = h; told = λ whole s. let R = root (drop at ws) whole in let d = whole-depth ws at bodies R in t R (omega arith) }
 
-  pub looked_shallow : budget ≡ 0 → at ≤ length ws → Looked ws at bodies budget (record { found = false; at = at })
+  pub looked_shallow : budget ≡ 0 → at ≤ length ws → Looked ws at bodies budget (Ok at)
   looked_shallow z h = by_root h (λ R d. absurd (omega arith))
 
-  pub looked_unknown : arity_of (get_or ws at 0) ≡ Unknown → at ≤ length ws → Looked ws at bodies budget (record { found = false; at = at })
+  pub looked_unknown : arity_of (get_or ws at 0) ≡ None → at ≤ length ws → Looked ws at bodies budget (Ok at)
   looked_unknown u h = by_root h (λ R d. absurd (let q = read-unknown (get_or (drop at ws) 0 0) (rw (word-there ws at) u) in let x = R.reads in let z : ◌≡◌ {A = ℕ} 0 1 = cc in omega arith))
 
   module _ {word n : ℕ} {b : Bool} (h : Headed ws at bodies word n b) where
-    pub looked_itself : b ≡ true → at ≤ length ws → Looked ws at bodies budget (record { found = true; at = at })
-    looked_itself y i = by_root i (λ R d. record { one = λ z. whole-stray ws at bodies R (test_there h) y; no_one = λ z. not-both refl z; end = λ z. not-both refl z })
+    pub looked_itself : b ≡ true → at ≤ length ws → Looked ws at bodies budget (Err at)
+    looked_itself y i = by_root i (λ R d. whole-stray ws at bodies R (test_there h) y)
 
     module _ (no' : b ≡ false) {next k : ℕ} (p : Passing ws at bodies budget next k) where
-      module _ (less : k < n) {m : ℕ} (e : m ≡ bodies_in word k bodies) {r : S.Stray} (l : Looked ws next m (budget - 1) r) where
+      module _ (less : k < n) {m : ℕ} (e : m ≡ bodies_in word k bodies) where
         e_there : m ≡ bodies_in (get_or (drop at ws) 0 0) k bodies
         e_there = rw (there h) e
 
-        pub looked_child : r.found ≡ true → Looked ws at bodies budget r
-        looked_child y = by_root l.inside (λ R d. record {
-          one = λ z. whole_row ws at bodies R (test_there h) no' ∙ found_in (p R d) (wants_there h) less e_there l (omega arith) y;
-          no_one = λ z. not-both y z;
-          end = λ z. not-both y z;
-        })
+        pub looked_child : {j : ℕ} → Looked ws next m (budget - 1) (Err j) → Looked ws at bodies budget (Err j)
+        looked_child l = by_root l.inside (λ R d. whole_row ws at bodies R (test_there h) no' ∙ found_in (p R d) (wants_there h) less e_there (omega arith) l)
 
-        pub looked_on : r.found ≡ false → Passing ws at bodies budget r.at (k + 1)
-        looked_on y R d = past_more (p R d) (wants_there h) less e_there l (omega arith) y
+        pub looked_on : {end : ℕ} → Looked ws next m (budget - 1) (Ok end) → Passing ws at bodies budget end (k + 1)
+        looked_on l R d = past_more (p R d) (wants_there h) less e_there (omega arith) l
 
-      pub looked_all : n ≤ k → next ≤ length ws → Looked ws at bodies budget (record { found = false; at = next })
+      pub looked_all : n ≤ k → next ≤ length ws → Looked ws at bodies budget (Ok next)
       looked_all all i = by_root i (λ R d.
           let q = p R d in
           let c = count-kids R (wants_there h) in
           let number = q.number in
           let z : R.kids ≡ q.done = q.kids ∙ ap (λ (f : Forest). q.done ⧺ f) (no_kids q.done q.rest R.kids q.kids (omega arith)) ∙ ⧺-none q.done in
           let place = q.place in
-          record {
-            one = λ x. not-both x refl;
-            no_one = λ x. whole_row ws at bodies R (test_there h) no' ∙ rw z q.nowhere;
-            end = λ x. let l = whole_length ws at bodies R in let y = ap (λ (f : Forest). length (words* f)) z in omega arith;
-          })
+          let l = whole_length ws at bodies R in
+          let y = ap (λ (f : Forest). length (words* f)) z in
+          (whole_row ws at bodies R (test_there h) no' ∙ rw z q.nowhere, omega arith))

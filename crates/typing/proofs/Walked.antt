@@ -11,7 +11,6 @@ use lib.ListN.{length, take, drop, get_or, length-append, length-drop}
 use Rattle.words.specs.Words.{laid}
 use Rattle.words.proofs.Runs.{to_end}
 use Rattle.term.specs.Heads.{Label, big_sum, heads, unread, labelled, reading, read, arity_of}
-use Rattle.term.specs.declared.heads.Arity.TheVariants.{Children}
 use Rattle.term.specs.Trees.{Tree, Forest, none, ◌▹◌, count, words, depth}
 use Rattle.term.specs.Terms.{max_bodies}
 use Rattle.term.proofs.Scan.{read_children, part_length}
@@ -22,15 +21,15 @@ use Rattle.types.specs.TypeOf.{fails, conclude, Inferred, typed, untyped, sorts,
 use Rattle.types.proofs.Labels.{binds-word}
 use Rattle.types.proofs.Sound.{sound}
 use Rattle.typing.specs.declared.sorts.Gathered as G
-use Rattle.typing.specs.declared.infer.Verdict as Answer
-use Rattle.typing.specs.declared.sorts.Outcome as O
+use Rattle.std.specs.Prelude.{Option as CodeOption, Some, Result, Ok, Err}
+use Rattle.typing.specs.declared.infer.Part as P
 use Rattle.typing.specs.declared.sorts.Sorted as S
 use Rattle.typebook.specs.Code.Shapes.{Shape, shape_of}
 use Rattle.typing.specs.Code.Shapes.{shape_at, Small, Room, Ready, Above, Answers}
 use Rattle.typebook.specs.Code.Lines.{concluded, alike_to, all_alike, is_sum}
 use Rattle.declarations.specs.Declarations.{good_declarations, context_in, context_at}
 use Rattle.typing.specs.Code.Chains.{Around, Held, index_len, enters_at, record_at, entered, entered_on, Enterable, Entered, ninth}
-use Rattle.typing.specs.Code.Verdicts.{refusal, settlement, leaf_of, Settled, Found, Typable, PartFound}
+use Rattle.typing.specs.Code.Verdicts.{settlement, leaf_of, Settled, Found, Typable, PartFound}
 use Rattle.typing.specs.Code.Conclude.{none_yet, gap_of, one_more, Concludes}
 use Rattle.typebook.proofs.Rows.{last_of, Roomy, children_law}
 use Rattle.typing.proofs.Leaves.{leaf_law}
@@ -41,7 +40,8 @@ use Rattle.typing.proofs.Passing.{later_by, next_at, Passed, passed-more, passed
 
 -- ---- gathering
 -- the first child and the latest, as they stand on the stack
-pub record Some (head top : ℕ) (s : Sort) (ss : List Sort) (g : G.Gathered) (st : List ℕ) : Type 0 where
+pub record Going (head top : ℕ) (s : Sort) (ss : List Sort) (g : G.Gathered) (st : List ℕ) : Type 0 where
+  pub top-is : g.top ≡ top
   pub small : Small g.first
   pub latest-small : Small g.latest
   pub first : shape_at st top g.first ≡ shape_of s
@@ -51,8 +51,8 @@ pub record Some (head top : ℕ) (s : Sort) (ss : List Sort) (g : G.Gathered) (s
   pub at : g.at ≤ g.free
 
 pub data Gathers (head top : ℕ) : List Sort → G.Gathered → List ℕ → Type 0 where
-  begun : {g : G.Gathered} {st : List ℕ} → g.alike ≡ is_sum head → g.free ≡ top → (g.first.left ≡ 0) × (g.first.right ≡ 0) → Gathers head top [] g st
-  going : {s : Sort} {ss : List Sort} {g : G.Gathered} {st : List ℕ} → Some head top s ss g st → Gathers head top (s ∷ ss) g st
+  begun : {g : G.Gathered} {st : List ℕ} → g.top ≡ top → g.alike ≡ is_sum head → g.free ≡ top → (g.first.left ≡ 0) × (g.first.right ≡ 0) → Gathers head top [] g st
+  going : {s : Sort} {ss : List Sort} {g : G.Gathered} {st : List ℕ} → Going head top s ss g st → Gathers head top (s ∷ ss) g st
 
 last_snoc : (s : Sort) (ss : List Sort) (t : Sort) → last_of s (ss ++ (t ∷ [])) ≡ t
 last_snoc s [] t = refl
@@ -73,6 +73,7 @@ some_children c cs e = omega arith
 
 -- where the next child's words go: behind the first one's, which are few, and the record behind them
 pub record Free (top : ℕ) (g : G.Gathered) : Type 0 where
+  pub top-is : g.top ≡ top
   pub small : Small g.first
   pub from : record_at top g.first ≤ g.free
   pub up_to : g.free ≤ top + 128
@@ -86,20 +87,21 @@ gap_few head = go (eqb head 27)
     go false = omega arith
 
 gathers_free : {head top : ℕ} {ss : List Sort} {g : G.Gathered} {st : List ℕ} → Gathers head top ss g st → Free top g
-gathers_free (begun a f s) = record { small = (omega arith, omega arith); from = omega arith; up_to = omega arith }
-gathers_free {head} (going k) = let s = k.small in let f = k.free in let p = gap_few head in record { small = s; from = omega arith; up_to = omega arith }
+gathers_free (begun b a f s) = record { top-is = b; small = (omega arith, omega arith); from = omega arith; up_to = omega arith }
+gathers_free {head} (going k) = let s = k.small in let f = k.free in let p = gap_few head in record { top-is = k.top-is; small = s; from = omega arith; up_to = omega arith }
 
 gathers_more : {head top k : ℕ} {ss : List Sort} {g r : G.Gathered} {child : S.Sorted} {st st' : List ℕ} (T : Sort) → Gathers head top ss g st → length ss ≡ k
-    → Above (record_at top g.first) st st' → Small child → shape_at st' g.free child ≡ shape_of T → r ≡ one_more head k st' top g child → Gathers head top (ss ++ (T ∷ [])) r st'
+    → Above (record_at top g.first) st st' → Small child → shape_at st' g.free child ≡ shape_of T → r ≡ one_more head k st' g child → Gathers head top (ss ++ (T ∷ [])) r st'
 unfolding all_alike one_more
-gathers_more {head} {top} {child = child} {st' = st'} T (begun al fr sm) n a small c t =
-    rw (t, eq-eqb _ _ (sym n)) (going {s = T} {ss = []}
-    (record { small = small; latest-small = small; first = rw fr at c; latest = rw fr at c; alike = al ∙ sym (and-true (is_sum head)); free = refl; at = omega arith }))
+gathers_more {head} {top} {child = child} {st' = st'} T (begun tp al fr sm) n a small c t =
+    rw (t, eq-eqb _ _ (sym n), tp) (going {s = T} {ss = []}
+    (record { top-is = refl; small = small; latest-small = small; first = rw fr at c; latest = rw fr at c; alike = al ∙ sym (and-true (is_sum head)); free = refl; at = omega arith }))
 gathers_more {head} {top} {k = k} {child = child} {st' = st'} T (going {s} {ss} {g} {st} h) n a small c t =
     let f = h.free in
     let first : shape_at st' top g.first ≡ shape_of s = shape-kept (record_at top g.first) st st' a.below top g.first (omega arith) ∙ h.first in
-    rw (t, ne_eqb _ _ (λ (z : k ≡ 0). omega arith)) (going {s = s} {ss = ss ++ (T ∷ [])}
+    rw (t, ne_eqb _ _ (λ (z : k ≡ 0). omega arith), h.top-is) (going {s = s} {ss = ss ++ (T ∷ [])}
     (record {
+      top-is = refl;
       small = h.small;
       latest-small = small;
       first = first;
@@ -121,7 +123,7 @@ pub record Walked (Γ : Context) (ws : List ℕ) (budget top head next k deepest
   pub kept : Above top st₀ st
   pub gathers : Gathers head top list g st
 
-pub walked_none : {Γ : Context} {ws : List ℕ} {budget top head n : ℕ} {g : G.Gathered} {st : List ℕ} → arity_of (get_or ws 0 0) ≡ Children n → 0 < budget
+pub walked_none : {Γ : Context} {ws : List ℕ} {budget top head n : ℕ} {g : G.Gathered} {st : List ℕ} → arity_of (get_or ws 0 0) ≡ Some n → 0 < budget
     → g ≡ none_yet head top → Walked Γ ws budget top head 1 0 0 g st st
 walked_none {Γ} {ws} {top = top} {head = head} {st = st} wants h e =
     let s = some_word ws wants in
@@ -134,7 +136,7 @@ walked_none {Γ} {ws} {top = top} {head = head} {st = st} wants h e =
       two = λ z. absurd (z refl);
       shallow = h;
       kept = above_refl top st;
-      gathers = begun {g = none_yet head top} refl refl (refl, refl);
+      gathers = begun {g = none_yet head top} refl refl refl (refl, refl);
     })
 
 -- ---- the bodies around the next child
@@ -176,7 +178,7 @@ module _ (ds : List ℕ) (good : good_declarations ds ≡ true) {st₀ st : List
       (record { bodies = around.bodies + 1; inner = record_at top g.first })
   unfolding count gap_of next_at context_in
   one_more_lem none k b room n l e = absurd (n refl)
-  one_more_lem (c ▹ cs) (begun al fr sm) b room n l e = absurd (omega arith)
+  one_more_lem (c ▹ cs) (begun tp al fr sm) b room n l e = absurd (omega arith)
   one_more_lem {g = g} (c ▹ cs) (going {s} {ss} k) b room n l e =
       let d = sound (well_at ds good x.trees) 1 c (first-sort Γ _ 1 c cs s ss e) in
       let small = k.small in
@@ -202,11 +204,11 @@ module _ {Γ : Context} {ws : List ℕ} {budget top head next k deepest : ℕ} {
   abbrev next_of : Context
   next_of = next_at (eqb head 27) Γ w.passed.children
 
-  module _ {child : Answer.Verdict} {st' : List ℕ} (s : Settled next_of (drop next ws) (budget - 1) g.free child st') where
+  module _ {child : P.Part} {st' : List ℕ} (s : Settled next_of (drop next ws) (budget - 1) g.free child st') where
     child-inside : next + child.size ≤ length ws
     child-inside = let p = part_length (drop next ws) 0 in let z = s.size in let i = w.inside in let d = length-drop next ws in omega arith
 
-    walked_more : Above (record_at top g.first) st st' → {r : G.Gathered} → r ≡ one_more head k st' top g child.sorted → {d : ℕ} → d ≡ max deepest child.depth
+    walked_more : Above (record_at top g.first) st st' → {r : G.Gathered} → r ≡ one_more head k st' g child.sorted → {d : ℕ} → d ≡ max deepest child.depth
         → Walked Γ ws budget top head (next + child.size) (k + 1) d r st₀ st'
     walked_more a t e =
         let c = first-tree (drop next ws) s.whole in
@@ -253,14 +255,18 @@ module _ {ds ws : List ℕ} {budget top head next k deepest : ℕ} {g : G.Gather
       let s = w.shallow in
       record { room = omega arith; long = omega arith; small = (free_at w).small; low = omega (arith, chain-low pre.under.held.chain); few = pre.few; some = omega arith }
 
+  pub next_inside : next ≤ length ws
+  next_inside = now_walked.inside
+
   -- all of them: what the rule asks
-  pub ready : k ≢ 0 → Ready top g st
+  pub ready : k ≢ 0 → Ready g st
   ready z = let w = now_walked in go w.gathers w.long
     where
-      go : {ss : List Sort} → Gathers head top ss g st → length ss ≡ k → Ready top g st
-      go (begun a f m) e = absurd (z (sym e))
+      go : {ss : List Sort} → Gathers head top ss g st → length ss ≡ k → Ready g st
+      go (begun b a f m) e = absurd (z (sym e))
       go (going m) e =
           let w = now_walked in
+          let t = m.top-is in
           let f = (free_at w).up_to in
           let a = m.at in
           let l = w.kept.long in
@@ -306,46 +312,49 @@ module _ {ds ws : List ℕ} {budget top head next k deepest : ℕ} {g : G.Gather
           few = omega arith;
         }
 
-    module _ {child : Answer.Verdict} {st'' : List ℕ} (f : PartFound ds rest left g.free within child st' st'') where
-      child-found : (x : Held (get_or ds 0 0) st₀ top around) → Found (next_of (v x)) (drop next ws) (budget - 1) g.free child st' st''
+    module _ {r : Result P.Part ℕ} {st'' : List ℕ} (f : PartFound ds rest left g.free within r st' st'') where
+      child-found : (x : Held (get_or ds 0 0) st₀ top around) → Found (next_of (v x)) (drop next ws) (budget - 1) g.free r st' st''
       child-found x = let y = entering x in rw (y.is, to_end ws next, e.budget_is) at (f y.held)
-
-      pub child-at : next + child.at ≤ length ws
-      child-at = let w = now_walked in omega (arith, length-drop next ws, (child-found pre.under.held).bound, w.inside)
 
       pub child-long : length st'' ≡ length st₀
       child-long = (child-found pre.under.held).kept.long ∙ within-long
 
-      pub walked-fails : {m : ℕ} → head ≡ get_or ws 0 0 / 256 → arity_of (get_or ws 0 0) ≡ Children m → k < m → child.typed ≡ false → {r : Answer.Verdict} → r ≡ refusal (next + child.at)
-          → PartFound ds ws budget top around r st₀ st''
-      walked-fails h wants less y is x =
+    -- an untyped one
+    module _ {j : ℕ} {st'' : List ℕ} (f : PartFound ds rest left g.free within (Err j) st' st'') where
+      pub child_at : next + j ≤ length ws
+      child_at = let w = now_walked in omega (arith, length-drop next ws, (child-found f pre.under.held).told.inside, w.inside)
+
+      pub walked_fails : {m : ℕ} → head ≡ get_or ws 0 0 / 256 → arity_of (get_or ws 0 0) ≡ Some m → k < m → PartFound ds ws budget top around (Err (next + j)) st₀ st''
+      walked_fails h wants less x =
           let w = v x in
           let u = (free_at w).from in
-          found-child w.passed (ap (λ (k : ℕ). eqb k 27) h) wants less w.inside child (above_trans w.kept (above_lower (omega arith) above)) (omega arith) (child-found x) y is
+          found-child w.passed (ap (λ (k : ℕ). eqb k 27) h) wants less w.inside (above_trans w.kept (above_lower (omega arith) above)) (omega arith) (child-found f x)
 
-      module _ (yes : child.typed ≡ true) where
-        pub child-end : next + child.size ≤ length ws
-        child-end = child-inside now_walked ((child-found pre.under.held).settled yes)
+    -- a typed one
+    module _ {child : P.Part} {st'' : List ℕ} (f : PartFound ds rest left g.free within (Ok child) st' st'') where
+      pub child_end : next + child.size ≤ length ws
+      child_end = child-inside now_walked (child-found f pre.under.held).told
 
-        pub gatherable : Room top st'' × Room g.free st'' × Small g.first × Small child.sorted
-        gatherable =
-            let w = now_walked in
-            let l = child-long in
-            let u = (free_at w).up_to in
-            let near = w.near in
-            let i = w.inside in
-            let s = w.shallow in
-            (omega arith, omega arith, (free_at w).small, ((child-found pre.under.held).settled yes).small)
+      pub gatherable : Room g.top st'' × Room g.free st'' × Small g.first × Small child.sorted
+      gatherable =
+          let w = now_walked in
+          let l = child-long f in
+          let t = (free_at w).top-is in
+          let u = (free_at w).up_to in
+          let near = w.near in
+          let i = w.inside in
+          let s = w.shallow in
+          (omega arith, omega arith, (free_at w).small, (child-found f pre.under.held).told.small)
 
-        pub walked_on : {r : G.Gathered} → r ≡ one_more head k st'' top g child.sorted → {d : ℕ} → d ≡ max deepest child.depth
-            → Walks ds ws budget top head (next + child.size) (k + 1) d r around st₀ st''
-        walked_on t d x = walked_more (v x) ((child-found x).settled yes) (above_trans above (above_lower (free_at (v x)).from (child-found x).kept)) t d
+      pub walked_on : {r : G.Gathered} → r ≡ one_more head k st'' g child.sorted → {d : ℕ} → d ≡ max deepest child.depth
+          → Walks ds ws budget top head (next + child.size) (k + 1) d r around st₀ st''
+      walked_on t d x = walked_more (v x) (child-found f x).told (above_trans above (above_lower (free_at (v x)).from (child-found f x).kept)) t d
 
 -- ---- the end
-all_by : (Γ : Context) (w : ℕ) {head top n : ℕ} (l : Label) {ss : List Sort} {g : G.Gathered} {st st' : List ℕ} {o : O.Outcome} → Roomy Γ l → Gathers head top ss g st → length ss ≡ n → n ≢ 0
-    → head ≡ w / 256 → read w ≡ labelled l n → Concludes head n top g st o st' → Answers (concluded (conclude Γ l ss)) o top st st'
-all_by Γ w l roomy (begun al fr sm) n z h r c = absurd (z (sym n))
-all_by Γ w l roomy (going {s} {ss} k) e z h r c = rw (children_law w l s ss (rw (← e) at r) Γ roomy, ← h, e) (rw (k.first, k.latest, k.alike) at c)
+all_by : (Γ : Context) (w : ℕ) {head top n : ℕ} (l : Label) {ss : List Sort} {g : G.Gathered} {st st' : List ℕ} {o : CodeOption S.Sorted} → Roomy Γ l → Gathers head top ss g st → length ss ≡ n → n ≢ 0
+    → head ≡ w / 256 → read w ≡ labelled l n → Concludes head n g st o st' → Answers (concluded (conclude Γ l ss)) o top st st'
+all_by Γ w l roomy (begun tp al fr sm) n z h r c = absurd (z (sym n))
+all_by Γ w l roomy (going {s} {ss} k) e z h r c = rw (children_law w l s ss (rw (← e) at r) Γ roomy, ← h, e) (rw (k.top-is, k.first, k.latest, k.alike) at c)
 
 -- a sum over a basis has no sort in as many bodies as there may be
 over_full : (Γ : Context) → max_bodies ≤ length Γ.bound → (ss : List Sort) → conclude Γ big_sum ss ≡ fails
@@ -369,33 +378,33 @@ no_room Γ w l n ss r h m = go (eqb (w % 256) 0) (rw h at r)
     go false e = absurd (let z : ◌≡◌ {A = ℕ} 0 1 = cc in omega arith)
 
 -- the label that a word with children has
-labelled_by : (w head n : ℕ) → arity_of w ≡ Children n → head ≡ w / 256 → (l : Label) × (read w ≡ labelled l n) × (binds l ≡ eqb head 27)
+labelled_by : (w head n : ℕ) → arity_of w ≡ Some n → head ≡ w / 256 → (l : Label) × (read w ≡ labelled l n) × (binds l ≡ eqb head 27)
 labelled_by w head n wants h = let q = read_children w n wants in (q.0, q.1, binds-word _ _ _ q.1 ∙ ap (λ (k : ℕ). eqb k 27) (sym h))
 
 module _ {Γ : Context} {ws : List ℕ} {budget top head next k deepest n : ℕ} {g : G.Gathered} {st₀ st : List ℕ} (w : Walked Γ ws budget top head next k deepest g st₀ st)
-    (wants : arity_of (get_or ws 0 0) ≡ Children n) (all : k ≡ n) (h : head ≡ get_or ws 0 0 / 256) {bodies : ℕ} (around : length Γ.bound ≡ bodies) {b : Bool} (test : b ≡ ninth head bodies) where
-  pub walked-ninth : b ≡ true → {r : Answer.Verdict} → r ≡ refusal 0 → Found Γ ws budget top r st₀ st
+    (wants : arity_of (get_or ws 0 0) ≡ Some n) (all : k ≡ n) (h : head ≡ get_or ws 0 0 / 256) {bodies : ℕ} (around : length Γ.bound ≡ bodies) {b : Bool} (test : b ≡ ninth head bodies) where
+  pub walked-ninth : b ≡ true → Found Γ ws budget top (Err 0) st₀ st
   unfolding ninth
-  walked-ninth e is =
+  walked-ninth e =
       let q = labelled_by (get_or ws 0 0) head n wants h in
       let t = (and-eq-true_iff _ _).0 (sym test ∙ e) in
       settles_none w.passed w.shallow q.0 (q.1 ∙ ap (labelled q.0) (sym all)) q.2 (some_word ws wants)
-      (no_room Γ _ _ _ _ q.1 (sym h ∙ eqb-true _ _ t.0) (rw around (leb-true _ _ t.1))) w.kept is
+      (no_room Γ _ _ _ _ q.1 (sym h ∙ eqb-true _ _ t.0) (rw around (leb-true _ _ t.1))) w.kept
 
   roomy : b ≡ false → (l : Label) → binds l ≡ eqb head 27 → Roomy Γ l
   unfolding ninth
   roomy e l q y = rw around (leb-false _ _ (rw (sym q ∙ y) at (sym test ∙ e)))
 
-  pub walked_all : b ≡ false → n ≢ 0 → {st' : List ℕ} {o : O.Outcome} → Concludes head n top g st o st' → {r : Answer.Verdict} → r ≡ settlement next (deepest + 1) o → Found Γ ws budget top r st₀ st'
+  pub walked_all : b ≡ false → n ≢ 0 → {st' : List ℕ} {o : CodeOption S.Sorted} → Concludes head n g st o st' → {r : Result P.Part ℕ} → r ≡ settlement next (deepest + 1) o → Found Γ ws budget top r st₀ st'
   walked_all e z c is =
       let q = labelled_by (get_or ws 0 0) head n wants h in
       let f = settles w.passed w.shallow q.0 (q.1 ∙ ap (labelled q.0) (sym all)) q.2 (some_word ws wants)
       (all_by Γ (get_or ws 0 0) q.0 (roomy e q.0 q.2) w.gathers (w.long ∙ all) z h q.1 c) is in
-      record { kept = above_trans w.kept f.kept; bound = f.bound; settled = f.settled; unsettled = f.unsettled }
+      record { kept = above_trans w.kept f.kept; told = f.told }
 
 -- a head without children
-pub leaf_found : {ws : List ℕ} {budget top n : ℕ} {st st' : List ℕ} (ds : List ℕ) (bs : List Tree) → arity_of (get_or ws 0 0) ≡ Children n → n ≡ 0 → 0 < budget → {o : O.Outcome}
-    → Answers (leaf_of ds bs (get_or ws 0 0)) o top st st' → {r : Answer.Verdict} → r ≡ settlement 1 1 o → Found (context_at ds bs) ws budget top r st st'
+pub leaf_found : {ws : List ℕ} {budget top n : ℕ} {st st' : List ℕ} (ds : List ℕ) (bs : List Tree) → arity_of (get_or ws 0 0) ≡ Some n → n ≡ 0 → 0 < budget → {o : CodeOption S.Sorted}
+    → Answers (leaf_of ds bs (get_or ws 0 0)) o top st st' → {r : Result P.Part ℕ} → r ≡ settlement 1 1 o → Found (context_at ds bs) ws budget top r st st'
 leaf_found {ws} {n} ds bs wants z b a is =
     let q = read_children (get_or ws 0 0) n wants in
     let e : read (get_or ws 0 0) ≡ labelled q.0 0 = q.1 ∙ ap (labelled q.0) z in

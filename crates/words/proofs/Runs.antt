@@ -1,17 +1,20 @@
 -- Runs of words: what clearing, copying and comparing them come to, one word at a time and as a whole.
 use mathlib.Core.Path.{◌≡◌, refl, sym, ◌∙◌, ap}
 use mathlib.Core.Logic.{◌≢◌}
-use mathlib.Core.Bool.{Bool, true, false, cond, ◌&&◌, and_assoc, and-eq-true_iff}
-use mathlib.Core.List.{List, [], ◌∷◌, ◌++◌, append_assoc, append-nil, head-eq_of_cons-eq, tail-eq_of_cons-eq}
+use mathlib.Core.Bool.{Bool, true, false, cond, ◌&&◌, and_assoc, and-true, and-eq-true_iff}
+use mathlib.Core.List.{List, [], ◌∷◌, ◌++◌, append_assoc, append-nil}
 use Prim.Native.Nat.{ℕ, zero, suc, ◌+◌, ◌-◌, ◌≤◌, ◌<◌, min}
 use native.Mathlib.Nat.{zero-add}
 use native.Mathlib.Numerals.{add-one}
 use native.Mathlib.Decide.{dec_le}
 use native.Mathlib.Omega.{arith}
 use lib.Dec.{eqb}
-use lib.ListN.{length, take, drop, replicate, get_or, set, length-append, length-take, length-drop, length-set, length-replicate, drop_of_length-le}
-use lib.Seq.{take_all, take_at, take-suc-set, length-take-le, get_or-take, get_or_at, drop-nil, drop-cons, drop-drop, drop-append-add, paste-suc}
+use lib.ListN.{length, take, drop, replicate, get_or, set, length-append, length-take, length-drop, length-replicate, drop_of_length-le}
+use lib.Seq.{take_all, take_at, length-take-le, drop-nil, drop-cons, drop-drop, drop-append-add, paste-suc}
 use borrow.Author.Tests.{eqb-true, eqb-false, eq-eqb, ne_eqb, le-leb, lt-leb}
+use Rattle.std.specs.Prelude.{}
+use borrow.Rule.Slice.PartMut.{put_mid}
+use Rattle.std.proofs.lemmas.List.{drop-replicate, drop-take, replicate_more, set_at, take-take}
 use Rattle.words.specs.Words.{cleared, overlaid, agreeing, same_words, laid, Added}
 
 -- ---- clearing
@@ -24,19 +27,21 @@ pub cleared-end : (ws : List ℕ) (at : ℕ) → length ws ≤ at → cleared ws
 unfolding cleared
 cleared-end ws at h = let z : length ws - at ≡ 0 = omega arith in rw (z, append-nil, take_all at ws)
 
--- one word cleared, and the rest to clear behind it
-pub cleared_more : (ws : List ℕ) (i : ℕ) → i < length ws → cleared (set ws i 0) (i + 1) ≡ cleared ws i
+-- one zero more
+pub zeros_more : (zeros : List ℕ) (w : ℕ) → zeros ≡ replicate (length zeros) 0 → w ≡ 0 → zeros ++ w ∷ [] ≡ replicate (length (zeros ++ w ∷ [])) 0
+zeros_more zeros w h z = rw (z, length-append) (ap (λ ws. ws ++ 0 ∷ []) h ∙ replicate_more (length zeros) 0)
+
+-- zeros in the place of all that was there from the offset on
+pub cleared_filled : (ws : List ℕ) (at : ℕ) (zeros : List ℕ) → length zeros ≡ length (take (length ws - at) (drop at ws)) → zeros ≡ replicate (length zeros) 0
+    → at < length ws → put_mid at (length ws - at) ws zeros ≡ cleared ws at
 unfolding cleared
-cleared_more ws i h =
-    let n : length ws - i ≡ suc (length ws - suc i) = omega arith in
-    rw (add-one, length-set, n, take-suc-set ws i 0, append_assoc)
+cleared_filled ws at zeros n e h =
+    let l = length-drop at ws in
+    let m : length zeros ≡ length ws - at = n ∙ simp length-take (omega arith) in
+    let z : length (drop at ws) ≤ length ws - at = omega arith in
+    rw (e, m, drop_of_length-le (drop at ws) z, append-nil)
 
 -- a run that is cleared from an offset on has zeros from any later one on
-drop-zeros : (k n : ℕ) → drop {A = ℕ} k (replicate n 0) ≡ replicate (n - k) 0
-drop-zeros zero n = let z : n - 0 ≡ n = omega arith in rw z
-drop-zeros (suc k) zero = let z : 0 - suc k ≡ 0 = omega arith in rw z
-drop-zeros (suc k) (suc n) = let z : suc n - suc k ≡ n - k = omega arith in rw z (drop-zeros k n)
-
 pub zeros_from : (ws : List ℕ) (old k : ℕ) → cleared ws old ≡ ws → old ≤ k → k ≤ length ws → drop k ws ≡ replicate (length ws - k) 0
 unfolding cleared
 zeros_from ws old k e h l =
@@ -44,7 +49,7 @@ zeros_from ws old k e h l =
     let n : k ≡ length (take old ws) + (k - old) = omega arith in
     let z : length ws - old - (k - old) ≡ length ws - k = omega arith in
     ap (drop k) (sym e) ∙ ap (λ (m : ℕ). drop m (take old ws ++ replicate (length ws - old) 0)) n
-    ∙ drop-append-add (take old ws) (replicate (length ws - old) 0) (k - old) ∙ drop-zeros (k - old) (length ws - old) ∙ ap (λ (m : ℕ). replicate m 0) z
+    ∙ drop-append-add (take old ws) (replicate (length ws - old) 0) (k - old) ∙ drop-replicate (k - old) (length ws - old) 0 ∙ ap (λ (m : ℕ). replicate m 0) z
 
 pub cleared_twice : (ws : List ℕ) (n : ℕ) → n ≤ length ws → cleared (cleared ws n) n ≡ cleared ws n
 unfolding cleared
@@ -56,26 +61,6 @@ cleared_twice ws n h =
 -- the run up to the very end is all that is left
 pub to_end : (ws : List ℕ) (from : ℕ) → take (length ws - from) (drop from ws) ≡ drop from ws
 to_end ws from = take_all (length ws - from) (drop from ws) (omega (arith, length-drop from ws))
-
--- as many words as there are, from an offset that may be past the end
-take_min : (n m : ℕ) (ws : List ℕ) → m ≡ min n (length ws) → take m ws ≡ take n ws
-take_min n m ws h = elim (dec_le n (length ws)) [
-  | yes k ↦ let z : m ≡ n = omega arith in rw z
-  | no k ↦ take_all m ws (omega arith) ∙ sym (take_all n ws (omega arith))
-]
-
-pub clipped : (ws : List ℕ) (from n s m : ℕ) → s ≡ min from (length ws) → m ≡ min n (length ws - s) → take (s + m - s) (drop s ws) ≡ take n (drop from ws)
-clipped ws from n s m h k =
-    let l = length-drop s ws in
-    let t = take_min n (s + m - s) (drop s ws) (omega arith) in
-    elim (dec_le from (length ws)) [
-      | yes y ↦ let z : s ≡ from = omega arith in t ∙ ap (λ (i : ℕ). take n (drop i ws)) z
-      | no y ↦ t ∙ ap (take n) (drop_of_length-le ws {i = s} (omega arith) ∙ sym (drop_of_length-le ws {i = from} (omega arith)))
-    ]
-
--- up to an offset before its own start there is no run
-pub run_to : (ws : List ℕ) (from to m : ℕ) {run : List ℕ} → m ≡ min from to → run ≡ take (to - m) (drop from ws) → run ≡ take (to - from) (drop from ws)
-run_to ws from to m h e = let z : to - m ≡ to - from = omega arith in rw (e, z)
 
 -- with the number of words that both have: that many of the one, and the rest of the other
 pub overlaid-is : (dst src : List ℕ) (i : ℕ) → i ≡ min (length dst) (length src) → overlaid dst src ≡ take i src ++ drop i dst
@@ -90,12 +75,6 @@ overlaid-is (d ∷ dst) (s ∷ src) (suc i) h = cc (overlaid-is dst src i (omega
 -- one word more, copied over the first that is not yet
 pub copied_more : (dst src : List ℕ) (i : ℕ) → i < length dst → i < length src → set (take i src ++ drop i dst) i (get_or src i 0) ≡ take (i + 1) src ++ drop (i + 1) dst
 copied_more dst src i h k = rw add-one (simp zero-add at (paste-suc dst 0 src i 0 (omega arith) k))
-
--- a word in front of the first n, which move up by one: the word that is read is the next one to be written
-pub first_next : (ws : List ℕ) (word n i : ℕ) → i < length ws → i < n → get_or (take i (word ∷ take n ws) ++ drop i ws) i 0 ≡ get_or (word ∷ take n ws) (i + 1) 0
-first_next ws word n i h k =
-    let l = length-take n ws in
-    rw (add-one, drop-cons ws i 0 h, get_or_at (take i (word ∷ take n ws)) (get_or ws i 0) (drop (suc i) ws) 0 i (length-take-le i (word ∷ take n ws) (omega arith))) (sym (get_or-take n ws i 0 k))
 
 -- ---- comparing
 -- the ways in which two runs agree for n words and no further
@@ -136,7 +115,8 @@ pub agreeing-differ : (as' bs : List ℕ) → agreeing as' bs < length as' → a
 agreeing-differ as' bs = agreed_differ (agreed as' bs)
 
 -- the other way round: only one number is as these laws say
-pub agreeing-is : (as' bs : List ℕ) (i : ℕ) → i ≤ length as' → i ≤ length bs → take i as' ≡ take i bs → (i < length as' → i < length bs → get_or as' i 0 ≡ get_or bs i 0 → ⊥) → agreeing as' bs ≡ i
+pub agreeing-is : (as' bs : List ℕ) (i : ℕ) → i ≤ length as' → i ≤ length bs → ((k : ℕ) → k < i → get_or as' k 0 ≡ get_or bs k 0)
+    → (i < length as' → i < length bs → get_or as' i 0 ≡ get_or bs i 0 → ⊥) → agreeing as' bs ≡ i
 unfolding agreeing
 agreeing-is [] bs zero p q e d = refl
 agreeing-is (a ∷ as') [] zero p q e d = refl
@@ -144,8 +124,8 @@ agreeing-is (a ∷ as') (b ∷ bs) zero p q e d = rw (ne_eqb a b (d (omega arith
 agreeing-is [] bs (suc i) p q e d = omega arith
 agreeing-is (a ∷ as') [] (suc i) p q e d = omega arith
 agreeing-is (a ∷ as') (b ∷ bs) (suc i) p q e d =
-    let r = agreeing-is as' bs i (omega arith) (omega arith) (tail-eq_of_cons-eq e) (λ p' q'. d (omega arith) (omega arith)) in
-    rw (eq-eqb a b (head-eq_of_cons-eq e), r)
+    let r = agreeing-is as' bs i (omega arith) (omega arith) (λ k l. e (suc k) (omega arith)) (λ p' q'. d (omega arith) (omega arith)) in
+    rw (eq-eqb a b (e 0 (omega arith)), r)
 
 -- ---- sameness
 pub same-words : (ws : List ℕ) → same_words ws ws ≡ true
@@ -164,20 +144,17 @@ same_words_eq (v ∷ vs) (w ∷ ws) e =
     let t = same_words_eq vs ws r.1 in cc
 
 -- one word more of each
-swap : (p q r : Bool) → (p && (q && r)) ≡ (q && (p && r))
-swap true q r = refl
-swap false true r = refl
-swap false false r = refl
-
-pub same_more : (i : ℕ) (xs ys : List ℕ) → i < length xs → i < length ys → same_words (take (i + 1) xs) (take (i + 1) ys) ≡ (eqb (get_or xs i 0) (get_or ys i 0) && same_words (take i xs) (take i ys))
+pub same_more : (xs ys : List ℕ) (i : ℕ) → i < length xs → i < length ys
+    → (same_words (take i xs) (take i ys) && eqb (get_or xs i 0) (get_or ys i 0)) ≡ same_words (take (i + 1) xs) (take (i + 1) ys)
 unfolding same_words
-same_more i xs ys h k = rw add-one (go i xs ys h k)
+same_more xs ys i h k = rw add-one (go xs ys i h k)
   where
-    go : (i : ℕ) (xs ys : List ℕ) → i < length xs → i < length ys → same_words (take (suc i) xs) (take (suc i) ys) ≡ (eqb (get_or xs i 0) (get_or ys i 0) && same_words (take i xs) (take i ys))
-    go i [] ys h k = absurd (omega arith)
-    go i (x ∷ xs) [] h k = absurd (omega arith)
-    go zero (x ∷ xs) (y ∷ ys) h k = refl
-    go (suc i) (x ∷ xs) (y ∷ ys) h k = rw (go i xs ys (omega arith) (omega arith)) (swap (eqb x y) (eqb (get_or xs i 0) (get_or ys i 0)) (same_words (take i xs) (take i ys)))
+    go : (xs ys : List ℕ) (i : ℕ) → i < length xs → i < length ys
+        → (same_words (take i xs) (take i ys) && eqb (get_or xs i 0) (get_or ys i 0)) ≡ same_words (take (suc i) xs) (take (suc i) ys)
+    go [] ys i h k = absurd (omega arith)
+    go (x ∷ xs) [] i h k = absurd (omega arith)
+    go (x ∷ xs) (y ∷ ys) zero h k = sym (and-true (eqb x y))
+    go (x ∷ xs) (y ∷ ys) (suc i) h k = rw (← go xs ys i (omega arith) (omega arith)) (and_assoc (eqb x y) (same_words (take i xs) (take i ys)) (eqb (get_or xs i 0) (get_or ys i 0)))
 
 -- two runs that begin with as many words, at once
 pub same-both : (xs zs ys ws : List ℕ) → length xs ≡ length zs → same_words (xs ++ ys) (zs ++ ws) ≡ (same_words xs zs && same_words ys ws)
@@ -224,12 +201,17 @@ module _ (ws : List ℕ) (at word n : ℕ) where
   pub no_room : length ws ≤ at + n → laid ws at (word ∷ take n (drop at ws)) ≡ ws
   no_room h = let l = length-take n (drop at ws) in let m = length-drop at ws in laid_out ws at (word ∷ take n (drop at ws)) (omega arith)
 
-  pub laid-first : (ys : List ℕ) (m : ℕ) → at + n < length ws → m ≡ length ws - at → ys ≡ overlaid (take m (drop at ws)) (word ∷ take n (take m (drop at ws)))
-      → take at ws ++ (ys ++ drop m (drop at ws)) ≡ laid ws at (word ∷ take n (drop at ws))
-  laid-first ys m h z e =
-      let l = length-take n (drop at ws) in
-      let k = length-drop at ws in
-      laid_copied ws at (word ∷ take n (drop at ws)) ys m (omega arith) z (e ∙ ap (λ (vs : List ℕ). overlaid (take m (drop at ws)) (word ∷ take n vs)) (rw z (to_end ws at)))
+  -- the words up to the one behind them, turned by one, and the word in the place of the one that came to the front
+  pub laid_turned : (turned : List ℕ) (k m : ℕ) → at + n < length ws → k ≡ n + 1 → m ≡ n → turned ≡ drop m (take k (drop at ws)) ++ take m (take k (drop at ws))
+      → set (put_mid at k ws turned) at word ≡ laid ws at (word ∷ take n (drop at ws))
+  laid_turned turned k m h kn mn e =
+      let rest = drop at ws in
+      let l = length-drop at ws in
+      let r = length-take n rest in
+      let front : take m (take k rest) ≡ take n rest = rw (kn, mn) (take-take n (n + 1) rest (omega arith)) in
+      let last : drop m (take k rest) ≡ get_or rest n 0 ∷ [] = rw (kn, mn, drop-take n 1 rest, drop-cons rest n 0 (omega arith)) in
+      let end : at + length (word ∷ take n rest) ≡ at + k = omega arith in
+      rw (e, front, last, laid_in ws at (word ∷ take n rest) (omega arith), end, ← drop-drop k at ws) (set_at (take at ws) _ _ word at (length-take-le at ws (omega arith)))
 
 -- ---- appending
 -- a run behind a run

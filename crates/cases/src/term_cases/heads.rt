@@ -3,23 +3,20 @@
 use crate::input::{Input, narrow, next_number};
 use crate::output::{Output, also, first};
 use std::io;
-use term::heads::{Arity, arity_of, child_class, result_class};
+use term::heads::{arity_of, child_class, result_class};
 use typebook::number;
 
-// The number of children that a word wants; 256, which no n reaches, for an unknown head.
+// The number of children that a word wants; 256, which no n reaches, for an unknown head, as the stored output has it.
 fn children(word: usize) -> usize {
-    match arity_of(narrow(word)) {
-        Arity::Unknown => 256,
-        Arity::Children(n) => n,
-    }
+    arity_of(narrow(word)).unwrap_or(256)
 }
 
 fn result(head: usize) -> usize {
-    number(result_class(head)) as usize
+    usize::from(number(result_class(head)))
 }
 
 fn child(head: usize, i: usize) -> usize {
-    number(child_class(head, i)) as usize
+    usize::from(number(child_class(head, i)))
 }
 
 // The classes of the result and of the children 0, 1 and 2.
@@ -43,14 +40,10 @@ fn show_line(output: &mut Output, head: usize) -> io::Result<()> {
 
 pub fn answer(input: &mut Input, output: &mut Output, op: usize) -> io::Result<()> {
     let n = next_number(input)?;
-    if op == 20 {
-        show_line(output, n)
-    } else if op == 21 {
-        first(output, children(n))
-    } else if op == 22 {
-        first(output, result(n))
-    } else {
-        let i = next_number(input)?;
-        first(output, child(n, i))
+    match op {
+        20 => show_line(output, n),
+        21 => first(output, children(n)),
+        22 => first(output, result(n)),
+        _ => first(output, child(n, next_number(input)?)),
     }
 }

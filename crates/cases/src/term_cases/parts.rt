@@ -53,9 +53,8 @@ fn answer_both(input: &mut Input, output: &mut Output) -> io::Result<()> {
 }
 
 pub fn answer(input: &mut Input, output: &mut Output, op: usize) -> io::Result<()> {
-    if op == 0 {
-        answer_one(input, output)
-    } else {
-        answer_both(input, output)
+    match op {
+        0 => answer_one(input, output),
+        _ => answer_both(input, output),
     }
 }

@@ -27,17 +27,15 @@ fn answer_both(input: &mut Input, output: &mut Output, op: usize) -> io::Result<
     let mut more_room = [0u16; MOST];
     let a = read_slice(input, &mut room)?;
     let b = read_slice(input, &mut more_room)?;
-    if op == 31 {
-        copy(output, a, b)
-    } else {
-        first(output, first_difference(a, b))
+    match op {
+        31 => copy(output, a, b),
+        _ => first(output, first_difference(a, b)),
     }
 }
 
 pub fn answer(input: &mut Input, output: &mut Output, op: usize) -> io::Result<()> {
-    if op == 30 {
-        clear(input, output)
-    } else {
-        answer_both(input, output, op)
+    match op {
+        30 => clear(input, output),
+        _ => answer_both(input, output, op),
     }
 }

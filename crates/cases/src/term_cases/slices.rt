@@ -5,19 +5,10 @@ use std::io;
 // The longest slice of a case has so many words.
 pub const MOST: usize = 20000;
 
-// Where a run ends that begins at `from`: at the end of the room where it would go on behind that.
-fn end_of_run(from: usize, count: usize, room: usize) -> usize {
-    if from < room {
-        if count < room - from {
-            return from + count;
-        }
-    }
-    room
-}
-
-// Reads a run to the offsets from `from` on, and answers where it ends.
+// Reads a run to the offsets from `from` on, and answers where it ends: at the end of the room where it would go on behind that.
 fn read_run(input: &mut Input, ws: &mut [u16], from: usize) -> io::Result<usize> {
-    let to = end_of_run(from, next_number(input)?, ws.len());
+    let count = next_number(input)?;
+    let to = from.saturating_add(count).min(ws.len());
     let word = narrow(next_number(input)?);
     fill(ws, from, to, word);
     Ok(to)
@@ -27,10 +18,8 @@ fn read_run(input: &mut Input, ws: &mut [u16], from: usize) -> io::Result<usize>
 pub fn read_slice<'a>(input: &mut Input, room: &'a mut [u16]) -> io::Result<&'a mut [u16]> {
     let n = next_count(input)?;
     let mut end = 0;
-    let mut i = 0;
-    while i < n {
+    for _ in 0..n {
         end = read_run(input, room, end)?;
-        i += 1;
     }
     Ok(front_mut(room, end))
 }

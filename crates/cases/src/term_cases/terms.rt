@@ -39,16 +39,14 @@ fn all_words(input: &mut Input) -> io::Result<bool> {
 }
 
 fn accepted(input: &mut Input, op: usize) -> io::Result<bool> {
-    if op == 10 {
-        return term(input);
+    match op {
+        10 => term(input),
+        11 => word(input),
+        _ => all_words(input),
     }
-    if op == 11 {
-        return word(input);
-    }
-    all_words(input)
 }
 
 pub fn answer(input: &mut Input, output: &mut Output, op: usize) -> io::Result<()> {
     let is_accepted = accepted(input, op)?;
-    first(output, if is_accepted { 1 } else { 0 })
+    first(output, usize::from(is_accepted))
 }

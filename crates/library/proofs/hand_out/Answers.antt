@@ -1,30 +1,21 @@
--- Slices of other sizes are refused; else they are filled from what is told.
+-- Slices of other sizes are refused; else they are filled from what is told, each index whole.
 use mathlib.Core.Path.{◌≡◌, sym, ◌∙◌}
-use mathlib.Core.Bool.{true}
+use borrow.Author.Rules.{rules}
+use borrow.Author.Tests.{eq-eqb}
 use lib.ListN.{length}
-use Rattle.library.specs.Numbers.{of_sizes}
-use Rattle.library.proofs.Tests.{three_sizes}
+use Rattle.library.proofs.Copies.{overlaid-whole}
 use Rattle.library.proofs.hand_out.Goals as goal
-
-pub returns-then-not-are_sizes : goal.returns-then-not-are_sizes
-returns-then-not-are_sizes c = let z = sym c.are_sizes.ensures ∙ c.if-not-are_sizes.true in record { returned = rw z; numbers = rw z; row_words = rw z; column_words = rw z }
-
-pub put_numbers-requires : goal.put_numbers-requires
-put_numbers-requires c =
-    let sized : let a = c.args in of_sizes a.answer.now a.rows.now a.columns.now ≡ true = sym c.are_sizes.ensures ∙ c.if-not-are_sizes.false in
-    let a = c.args in
-    (three_sizes (length a.answer.now) (length a.rows.now) (length a.columns.now) sized).0
-
-pub put_words-requires : goal.put_words-requires
-put_words-requires c =
-    let sized : let a = c.args in of_sizes a.answer.now a.rows.now a.columns.now ≡ true = sym c.are_sizes.ensures ∙ c.if-not-are_sizes.false in
-    let a = c.args in
-    let t = three_sizes (length a.answer.now) (length a.rows.now) (length a.columns.now) sized in
-    (t.1, t.2)
 
 pub returns : goal.returns
 returns c =
-    let sized : let a = c.args in of_sizes a.answer.now a.rows.now a.columns.now ≡ true = sym c.are_sizes.ensures ∙ c.if-not-are_sizes.false in
-    let z = sized in
-    let w = c.put_words.ensures in
-    record { returned = rw z; numbers = rw z c.put_numbers.ensures; row_words = rw z w.0; column_words = rw z w.1 }
+    let answer = eq-eqb _ _ c.if-answer-ne9.false in
+    let rows = eq-eqb _ _ c.if-rows-ne63.false in
+    let columns = eq-eqb _ _ c.if-columns-ne63.false in
+    let n : length c.args.t.of.rows ≡ 63 = search rules in
+    let m : length c.args.t.of.columns ≡ 63 = search rules in
+    record {
+      returned = rw (answer, rows, columns);
+      numbers = rw (answer, rows, columns) c.put_numbers.ensures;
+      row_words = rw (answer, rows, columns) (c.copy_words.ensures.1 ∙ overlaid-whole _ _ (c.if-rows-ne63.false ∙ sym n));
+      column_words = rw (answer, rows, columns) (c.copy_words-2.ensures.1 ∙ overlaid-whole _ _ (c.if-columns-ne63.false ∙ sym m));
+    }

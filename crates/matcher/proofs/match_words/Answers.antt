@@ -1,23 +1,22 @@
-use native.Mathlib.Omega.{arith}
-use borrow.Author.Tests.{not-true, not-false}
+use mathlib.Core.Path.{◌≡◌, ◌∙◌}
+use borrow.Author.Rules.{rules}
+use Rattle.std.specs.Prelude.{Err}
 use Rattle.matcher.proofs.Walks.{asked-first, asked_last, asked-more, asked-stops, standing_begun, standing_next}
 use Rattle.matcher.proofs.match_words.Goals as goal
 
-pub loop-k-init : goal.loop-k-init
-loop-k-init c = (omega arith, rw c.begin-m.ensures (standing_begun _), rw c.begin-m.ensures (asked-first _ _))
+pub loop-word-init : goal.loop-word-init
+loop-word-init c = record { standing = rw c.begin-found.ensures (standing_begun _); asked = rw c.begin-found.ensures (asked-first _ _) }
 
-pub match_word-m-requires : goal.match_word-m-requires
-match_word-m-requires c = c.loop-k.invariant.1
+pub returns-in_err-found : goal.returns-in_err-found
+returns-in_err-found c =
+    let told : c.from_residual.result ≡ Err c.in_err-found.field-0.0 = search rules in
+    told ∙ asked-stops _ _ c.loop-word.invariant.asked c.loop-word-test.true c.in_err-found.ensures
 
-pub returns-then-not-m : goal.returns-then-not-m
-returns-then-not-m c =
-    asked-stops _ _ _ _ c.loop-k.invariant.2 c.loop-k-test.true c.match_word-m.ensures (not-true _ c.if-not-m.true)
-
-pub loop-k-preserved : goal.loop-k-preserved
-loop-k-preserved c =
-    let w = (not-false _ c.if-not-m.false) in
-    let e = c.match_word-m.ensures in
-    (omega arith, standing_next c.loop-k.invariant.1 _ e w, asked-more _ _ _ _ c.loop-k.invariant.2 c.loop-k-test.true e w)
+pub loop-word-preserved : goal.loop-word-preserved
+loop-word-preserved c = record {
+  standing = standing_next c.loop-word.invariant.standing _ c.in_ok-found.ensures;
+  asked = asked-more _ _ c.loop-word.invariant.asked c.loop-word-test.true c.in_ok-found.ensures;
+}
 
 pub returns : goal.returns
-returns c = asked_last _ _ _ _ c.loop-k.invariant.2 c.loop-k-test.false
+returns c = asked_last _ _ c.loop-word.invariant.asked c.loop-word-test.false

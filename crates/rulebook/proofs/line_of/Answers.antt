@@ -5,24 +5,12 @@ use Rattle.words.proofs.Listed.{up_to-read}
 use Rattle.term.specs.Heads.{word}
 use Rattle.rules.specs.Table.{rule_of}
 use Rattle.rulebook.specs.Code.Rows.{grouped, start_among, row_of, row_line}
-use Rattle.rulebook.proofs.Rows.{line_from, line-past}
+use Rattle.rulebook.proofs.Rows.{line-past}
 use Rattle.rulebook.proofs.line_of.Goals as goal
-
-pub returns-then-rule-lt50 : goal.returns-then-rule-lt50
-unfolding up_to row_line row_of rule_of start_among grouped word
-returns-then-rule-lt50 c = up_to-read 50 (λ k. row_line (row_of k)) 0 c.args.rule c.if-rule-lt50.true
-
-pub returns-then-rule-lt100 : goal.returns-then-rule-lt100
-unfolding up_to row_line row_of rule_of start_among grouped word
-returns-then-rule-lt100 c = line_from 50 50 c.args.rule c.if-rule-lt50.false c.if-rule-lt100.true
-
-pub returns-then-rule-lt150 : goal.returns-then-rule-lt150
-unfolding up_to row_line row_of rule_of start_among grouped word
-returns-then-rule-lt150 c = line_from 100 50 c.args.rule c.if-rule-lt100.false c.if-rule-lt150.true
 
 pub returns-then-rule-lt192 : goal.returns-then-rule-lt192
 unfolding up_to row_line row_of rule_of start_among grouped word
-returns-then-rule-lt192 c = line_from 150 42 c.args.rule c.if-rule-lt150.false c.if-rule-lt192.true
+returns-then-rule-lt192 c = up_to-read 192 (λ k. row_line (row_of k)) 0 c.args.rule c.if-rule-lt192.true
 
 pub returns : goal.returns
 returns c = sym (line-past _ c.if-rule-lt192.false)

@@ -1,12 +1,14 @@
 -- The table of rules as the code holds it: a row of five numbers for each rule number, and the words of the equations one side behind the other, in groups of fifty rule numbers. Both are
 -- made of `table` of `rules` Table, which is the one to believe.
-use Rattle.std.specs.Prelude.{cond, List, [], ◌∷◌, ◌++◌, ℕ, ◌+◌, ◌*◌, ◌/◌, eqb, length}
+use Rattle.std.specs.Prelude.{cond, List, [], ◌∷◌, ◌++◌, ℕ, ◌+◌, ◌*◌, ◌/◌, eqb, length, get_or}
 use Rattle.std.proofs.Math.Option.{Option, some, none}
 use Rattle.term.specs.Heads.{Label, word}
 use Rattle.rules.specs.Patterns.{Pattern, #◌, first, second, ◌⟨⟩, ◌⟨◌⟩, ◌⟨◌∣◌⟩}
 use Rattle.rules.specs.Table.{Condition, any, a_ket, a_bra, an_operator, unused, marked, Which, child, child_i, Summand, plain, scaled, Rule, ◌⇒◌▷◌, spreading, removing, absorbing, merging}
 use Rattle.rules.specs.Table.{collecting, swapping, distributing, Line, ◌∶◌, table, rule_of}
 use Rattle.rulebook.specs.declared.Row.{Row}
+use Rattle.rulebook.specs.declared.Family.{Family}
+use Rattle.rulebook.specs.declared.Family.TheVariants.{NoRule, Equation, Spread, Remove, Absorb, Merge, Collect, Swap, Distribute}
 
 -- ---- the words of a pattern: in document 01's encoding, with words of unknown heads for hole k (255:k), `first k` (254:k) and `second k` (253:k)
 unfoldable pub pattern_words : Pattern → List ℕ
@@ -77,28 +79,43 @@ summand_number plain = 0
 summand_number scaled = 1
 
 -- ---- a row: the family, and what it asks
--- 0 no rule; 1 an equation: where its words begin in its group, how many its left and its right side have, its condition; 2 spreading: the head, which child, the sum's head,
--- the result's; 3 removing: the parent's head, the child's; 4 absorbing; 5 merging; 6 collecting: whether each summand is scaled; 7 swapping; 8 distributing
-abbrev pub row : ℕ → ℕ → ℕ → ℕ → ℕ → Row
+-- an equation: where its words begin in its group, how many its left and its right side have, its condition; spreading: the head, which child, the sum's head,
+-- the result's; removing: the parent's head, the child's; collecting: whether each summand is scaled; the others nothing
+abbrev pub row : Family → ℕ → ℕ → ℕ → ℕ → Row
 row f a b c d = record { family = f; a = a; b = b; c = c; d = d }
 
 unfoldable pub row_for : ℕ → Option Rule → Row
 unfolding pattern_words
-row_for at none = row 0 0 0 0 0
-row_for at (some (k ⇒ l ▷ r)) = row 1 at (length (pattern_words l)) (length (pattern_words r)) (condition_number k)
-row_for at (some (spreading l w s r)) = row 2 (head_number l) (which_number w) (head_number s) (head_number r)
-row_for at (some (removing l c)) = row 3 (head_number l) (head_number c) 0 0
-row_for at (some absorbing) = row 4 0 0 0 0
-row_for at (some merging) = row 5 0 0 0 0
-row_for at (some (collecting u v)) = row 6 (summand_number u) (summand_number v) 0 0
-row_for at (some swapping) = row 7 0 0 0 0
-row_for at (some distributing) = row 8 0 0 0 0
+row_for at none = row NoRule 0 0 0 0
+row_for at (some (k ⇒ l ▷ r)) = row Equation at (length (pattern_words l)) (length (pattern_words r)) (condition_number k)
+row_for at (some (spreading l w s r)) = row Spread (head_number l) (which_number w) (head_number s) (head_number r)
+row_for at (some (removing l c)) = row Remove (head_number l) (head_number c) 0 0
+row_for at (some absorbing) = row Absorb 0 0 0 0
+row_for at (some merging) = row Merge 0 0 0 0
+row_for at (some (collecting u v)) = row Collect (summand_number u) (summand_number v) 0 0
+row_for at (some swapping) = row Swap 0 0 0 0
+row_for at (some distributing) = row Distribute 0 0 0 0
 
 -- the row of a rule's number
 unfoldable pub row_of : ℕ → Row
 unfolding row_for start_in
 row_of n = row_for (start_in n table) (rule_of n)
 
+-- the digit of a family, and the family of a digit
+abbrev pub digit_of : Family → ℕ
+digit_of NoRule = 0
+digit_of Equation = 1
+digit_of Spread = 2
+digit_of Remove = 3
+digit_of Absorb = 4
+digit_of Merge = 5
+digit_of Collect = 6
+digit_of Swap = 7
+digit_of Distribute = 8
+
+abbrev pub family_of : ℕ → Family
+family_of n = get_or (NoRule ∷ Equation ∷ Spread ∷ Remove ∷ Absorb ∷ Merge ∷ Collect ∷ Swap ∷ Distribute ∷ []) n NoRule
+
 -- a row in hexadecimal digits: one for the family, two for a, one for b, two each for c and d
 unfoldable pub row_line : Row → ℕ
-row_line r = r.family * 268435456 + r.a * 1048576 + r.b * 65536 + r.c * 256 + r.d
+row_line r = digit_of r.family * 268435456 + r.a * 1048576 + r.b * 65536 + r.c * 256 + r.d

@@ -1,10 +1,7 @@
--- The invariant: the class asked for is that of the part at hand, turned or not.
-use mathlib.Core.Path.{◌≡◌}
-use Rattle.shapes.specs.Reading.{turned_if, class_at}
+-- The invariant: the class asked for is that of the part at hand, turned or not, with the budget that is left.
+use Rattle.shapes.specs.Reading.{class_at}
+use Rattle.shapes.proofs.Steps.{Turning}
 use Rattle.shapes.proofs.class_of.Given as goal
 
-abbrev pub invariant-loop-left : goal.invariant-loop-left
-invariant-loop-left l = turned_if l.turned (class_at l.ds l.ws l.left l.at) ≡ class_at l.ds l.ws l.budget l.from
-
-abbrev pub decreases-loop-left : goal.decreases-loop-left
-decreases-loop-left l = l.left
+abbrev pub invariant-loop : goal.invariant-loop
+invariant-loop l = Turning l.ds l.ws l.budget l.counter l.at l.turned (class_at l.ds l.ws l.budget l.from)

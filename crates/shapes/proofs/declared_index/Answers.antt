@@ -4,10 +4,6 @@ use borrow.Author.Rules.{rules}
 use Rattle.shapes.specs.Reading.{basis_index, declared_index}
 use Rattle.shapes.proofs.declared_index.Goals as goal
 
-pub overflow_cast-name : goal.overflow_cast-name
-unfolding basis_index declared_index
-overflow_cast-name c = search rules
-
 pub overflow_mul-name : goal.overflow_mul-name
 unfolding basis_index declared_index
 overflow_mul-name c = search rules
@@ -32,17 +28,13 @@ pub word_at-requires : goal.word_at-requires
 unfolding basis_index declared_index
 word_at-requires c = search rules
 
-pub overflow_cast-word_at : goal.overflow_cast-word_at
-unfolding basis_index declared_index
-overflow_cast-word_at c = search rules
-
 pub run-requires : goal.run-requires
 unfolding basis_index declared_index
 run-requires c = search rules
 
 pub returns-then-word-eq3 : goal.returns-then-word-eq3
 unfolding basis_index declared_index
-returns-then-word-eq3 c = let h = c.if-word-eq3.true in rw (eq-eqb _ 3 h) (rw c.word_at.ensures at c.run.ensures)
+returns-then-word-eq3 c = let h = c.if-word-eq3.true in rw (eq-eqb _ 3 h) (rw (c.from.ensures, c.word_at.ensures, c.from-name.ensures) at c.run.ensures)
 
 pub variable_index-requires : goal.variable_index-requires
 unfolding basis_index declared_index
@@ -50,12 +42,8 @@ variable_index-requires c = search rules
 
 pub returns-then-word-eq26 : goal.returns-then-word-eq26
 unfolding basis_index declared_index
-returns-then-word-eq26 c = rw (ne_eqb _ 3 c.if-word-eq3.false, eq-eqb _ 26 c.if-word-eq26.true) c.variable_index.ensures
-
-pub run-requires-2 : goal.run-requires-2
-unfolding basis_index declared_index
-run-requires-2 c = search rules
+returns-then-word-eq26 c = rw (ne_eqb _ 3 c.if-word-eq3.false, eq-eqb _ 26 c.if-word-eq26.true) (rw c.from-name.ensures at c.variable_index.ensures)
 
 pub returns : goal.returns
 unfolding basis_index declared_index
-returns c = rw (ne_eqb _ 3 c.if-word-eq3.false, ne_eqb _ 26 c.if-word-eq26.false) c.run-2.ensures
+returns c = rw (ne_eqb _ 3 c.if-word-eq3.false, ne_eqb _ 26 c.if-word-eq26.false)

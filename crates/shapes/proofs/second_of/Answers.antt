@@ -3,14 +3,14 @@ use borrow.Author.Tests.{eq-eqb, ne_eqb}
 use Rattle.shapes.specs.Reading.{second_of}
 use Rattle.shapes.proofs.second_of.Goals as goal
 
-pub returns-then-kind-eq3 : goal.returns-then-kind-eq3
+pub returns-in-Right : goal.returns-in-Right
 unfolding second_of
-returns-then-kind-eq3 c = rw (c.if-right.true, eq-eqb _ 3 c.if-kind-eq3.true)
+returns-in-Right c = rw (c.in-Right.is, eq-eqb _ 3 c.if-kind-eq3.true)
 
-pub returns-else-kind-eq3 : goal.returns-else-kind-eq3
+pub returns-in_default : goal.returns-in_default
 unfolding second_of
-returns-else-kind-eq3 c = rw (c.if-right.true, ne_eqb _ 3 c.if-kind-eq3.false)
+returns-in_default c = rw (c.in-Right.is, ne_eqb _ 3 c.if-kind-eq3.false)
 
-pub returns-else-right : goal.returns-else-right
+pub returns-in_default-2 : goal.returns-in_default-2
 unfolding second_of
-returns-else-right c = rw c.if-right.false
+returns-in_default-2 c = rw c.in_default.is

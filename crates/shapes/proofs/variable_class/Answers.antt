@@ -1,24 +1,20 @@
 -- The kind is a class from 3 on.
-use borrow.Author.Rules.{rules}
+use native.Mathlib.Omega.{arith}
 use Rattle.shapes.specs.Reading.{variable_class}
 use Rattle.shapes.proofs.variable_class.Goals as goal
 
-pub overflow_mul-name : goal.overflow_mul-name
+pub returns-in-0 : goal.returns-in-0
 unfolding variable_class
-overflow_mul-name c = search rules
+returns-in-0 c = rw (← c.word_at.ensures, c.in-0.is)
 
-pub overflow_add-name : goal.overflow_add-name
+pub returns-in-1 : goal.returns-in-1
 unfolding variable_class
-overflow_add-name c = search rules
+returns-in-1 c = rw (← c.word_at.ensures, c.in-1.is)
 
-pub word_at-requires : goal.word_at-requires
+pub returns-in-2 : goal.returns-in-2
 unfolding variable_class
-word_at-requires c = search rules
+returns-in-2 c = rw (← c.word_at.ensures, c.in-2.is)
 
-pub overflow_add-result : goal.overflow_add-result
+pub returns-in_default : goal.returns-in_default
 unfolding variable_class
-overflow_add-result c = search rules
-
-pub returns : goal.returns
-unfolding variable_class
-returns c = rw (← c.word_at.ensures)
+returns-in_default c = rw (← c.word_at.ensures) (omega arith)

@@ -1,5 +1,5 @@
 -- Where a rule is tried: a typed part of a term, under good declarations.
-use Rattle.std.specs.Prelude.{◌≡◌, true, List, [], ◌++◌, ℕ, ◌-◌, ◌≤◌, length, take, drop}
+use Rattle.std.specs.Prelude.{◌≡◌, true, Result, List, [], ◌++◌, ℕ, ◌-◌, ◌≤◌, length, take, drop}
 use Rattle.std.proofs.Math.Option.{Option, some}
 use Rattle.term.specs.Trees.{Tree, words, Formed, depth}
 use Rattle.term.specs.Terms.{max_depth}
@@ -10,7 +10,7 @@ use Rattle.shapes.specs.Bodies.{Bound, outer_at}
 use Rattle.rules.specs.Patterns.{Pattern}
 use Rattle.rules.specs.Table.{Condition, Rule, ◌⇒◌▷◌, rule_of}
 use Rattle.rules.specs.Rewrite.{rewrite}
-use Rattle.families.specs.declared.writing.Rewritten.{Rewritten}
+use Rattle.families.specs.declared.writing.Refusal.{Refusal}
 use Rattle.families.specs.Writing.{Writes}
 use Rattle.rules.specs.Steps.{Step}
 use Rattle.rulebook.specs.declared.Row.{Row}
@@ -46,6 +46,6 @@ abbrev pub equated_at : (ds : List ℕ) {term : List ℕ} {place : ℕ} {ws : Li
 equated_at ds x e i j = rewrite (context_at ds x.bodies) (e.condition ⇒ e.left ▷ e.right) i j x.tree
 
 -- what a step's rule makes of the part at its place is written
-abbrev pub Promise : List ℕ → List ℕ → Step → List ℕ → List ℕ → Rewritten → Type 0
+abbrev pub Promise : List ℕ → List ℕ → Step → List ℕ → List ℕ → Result ℕ Refusal → Type 0
 Promise ds term s out out' r =
     (x : Site ds term s.place (words_from term s.place)) (k : Rule) → rule_of s.rule ≡ some k → Writes (rewrite (context_at ds x.bodies) k s.i s.j x.tree) out out' r

@@ -1,11 +1,10 @@
 -- Sorts on the stack: the words of their indices stand there, and what goes by value is the class, and how many words they are.
-use Rattle.std.specs.Prelude.{◌≡◌, true, List, ℕ, ◌+◌, ◌≤◌, length, take, drop}
-use Rattle.std.proofs.Math.Option.{Option, some}
+use Rattle.std.specs.Prelude.{◌≡◌, List, ℕ, ◌+◌, ◌≤◌, length, take, drop, Option as CodeOption, Some, None, IfSome}
+use Rattle.std.proofs.Math.Option.{Option, some, none as nothing}
 use Rattle.term.specs.declared.heads.Class.TheVariants.{Scalar}
-use Rattle.typebook.specs.Code.Shapes.{Shape, shape, given}
+use Rattle.typebook.specs.Code.Shapes.{Shape, shape}
 use Rattle.typing.specs.declared.sorts.Sorted as S
 use Rattle.typing.specs.declared.sorts.Run as R
-use Rattle.typing.specs.declared.sorts.Outcome as O
 use Rattle.typing.specs.declared.sorts.Gathered as G
 
 -- so many words from an offset on
@@ -30,11 +29,11 @@ abbrev pub Room : ℕ → List ℕ → Type 0
 Room at st = at + 126 ≤ length st
 
 -- the first and the latest of a part's children: in numbers, and on the stack
-abbrev pub Near : ℕ → G.Gathered → Type 0
-Near top g = (top ≤ 8320) × (g.at ≤ 8320) × Small g.first × Small g.latest
+abbrev pub Near : G.Gathered → Type 0
+Near g = (g.top ≤ 8320) × (g.at ≤ 8320) × Small g.first × Small g.latest
 
-pub record Ready (top : ℕ) (g : G.Gathered) (st : List ℕ) : Type 0 where
-  pub room : Room top st
+pub record Ready (g : G.Gathered) (st : List ℕ) : Type 0 where
+  pub room : Room g.top st
   pub more : Room g.at st
   pub long : length st ≤ 8320
   pub first : Small g.first
@@ -49,8 +48,13 @@ pub record Above (top : ℕ) (st st' : List ℕ) : Type 0 where
 abbrev pub plain : S.Sorted
 plain = record { class = Scalar; left = 0; right = 0 }
 
+-- the shape of a sort, where there is one
+abbrev pub told_at : List ℕ → ℕ → CodeOption S.Sorted → Option Shape
+told_at st at None = nothing
+told_at st at (Some s) = some (shape_at st at s)
+
 -- the answer to a rule: its sort, with the words from an offset on
-pub record Answers (o : Option Shape) (r : O.Outcome) (top : ℕ) (st st' : List ℕ) : Type 0 where
-  pub told : given r.typed (some (shape_at st' top r.sorted)) ≡ o
-  pub small : r.typed ≡ true → Small r.sorted
+pub record Answers (o : Option Shape) (r : CodeOption S.Sorted) (top : ℕ) (st st' : List ℕ) : Type 0 where
+  pub told : told_at st' top r ≡ o
+  pub small : IfSome r Small
   pub kept : Above top st st'

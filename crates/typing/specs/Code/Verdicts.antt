@@ -1,15 +1,15 @@
 -- The answer of typing a part, as the code gives it.
-use Rattle.std.specs.Prelude.{◌≡◌, Bool, true, false, cond, List, [], ◌∷◌, ℕ, ◌+◌, ◌*◌, ◌/◌, ◌%◌, ◌≤◌, ◌<◌, min, eqb, ltb, length, get_or}
+use Rattle.std.specs.Prelude.{◌≡◌, true, cond, List, [], ◌∷◌, ℕ, ◌+◌, ◌*◌, ◌/◌, ◌%◌, ◌≤◌, ◌<◌, min, eqb, ltb, length, get_or, Option as CodeOption, Some, None, Result, Ok, Err}
 use Rattle.std.proofs.Math.Option.{Option, some, none as nothing}
 use Rattle.std.proofs.Math.ListN.{get_elem?}
+use Rattle.term.specs.declared.heads.Class.{Class}
 use Rattle.term.specs.declared.heads.Class.TheVariants.{Index, Basis, Scalar, Ket, Bra, Operator}
 use Rattle.term.specs.Parts.{parse, tree_in, part, part_depth}
 use Rattle.term.specs.Terms.{term_words, max_bodies}
 use Rattle.term.specs.Trees.{Tree}
 use Rattle.typing.specs.declared.sorts.Sorted as S
-use Rattle.typing.specs.declared.sorts.Outcome as C
 use Rattle.typing.specs.declared.lookup.Entry as E
-use Rattle.typing.specs.declared.infer.Verdict as Answer
+use Rattle.typing.specs.declared.infer.Part as P
 use Rattle.typing.specs.declared.terms.Kind as K
 use Rattle.typing.specs.declared.terms.Kind.TheVariants as Kinds
 use Rattle.typing.specs.declared.terms.Typing as A
@@ -23,13 +23,10 @@ use Rattle.types.specs.Sorts.{Sort, basis, Context}
 use Rattle.types.specs.Strays.{stray_of}
 use Rattle.types.specs.TypeOf.{index_tree, typed, untyped, type_of}
 
--- an untyped part, by its offset
-abbrev pub refusal : ℕ → Answer.Verdict
-refusal k = record { typed = false; at = k; size = 0; depth = 0; sorted = plain }
-
--- a part of so many words and so deep, by what is concluded of it
-abbrev pub settlement : ℕ → ℕ → C.Outcome → Answer.Verdict
-settlement n d o = record { typed = o.typed; at = 0; size = n; depth = d; sorted = o.sorted }
+-- a part of so many words and so deep, by the sort that is concluded of it; it is itself the first untyped one where it has none
+abbrev pub settlement : ℕ → ℕ → CodeOption S.Sorted → Result P.Part ℕ
+settlement n d None = Err 0
+settlement n d (Some s) = Ok (record { size = n; depth = d; sorted = s })
 
 -- ---- a head without children, by its word: a name as declared, a bound basis, or the scalar 0 or 1
 -- a bound basis has the index of its sum, where that has one
@@ -60,25 +57,25 @@ sorted_by k n m =
     (record { class = Operator; left = n; right = m })))
 
 -- what is declared of a name, in numbers
-abbrev pub bare_entry : Bool → E.Entry
-bare_entry b = record { typed = b; sorted = plain; left = run_of 0 0; right = run_of 0 0 }
+abbrev pub bare_entry : E.Entry
+bare_entry = record { sorted = plain; left = run_of 0 0; right = run_of 0 0 }
 
 unfoldable pub basis_entry : List ℕ → ℕ → E.Entry
 basis_entry ds a =
     let n = get_or ds (basis_at a) 0 in
-    record { typed = true; sorted = record { class = Basis; left = n; right = 0 }; left = run_of (basis_at a + 1) n; right = run_of 0 0 }
+    record { sorted = record { class = Basis; left = n; right = 0 }; left = run_of (basis_at a + 1) n; right = run_of 0 0 }
 
 unfoldable pub variable_entry : List ℕ → ℕ → E.Entry
 variable_entry ds a =
     let at = variable_at a in
     let n = get_or ds (at + 1) 0 in
     let m = get_or ds (at + 2) 0 in
-    record { typed = true; sorted = sorted_by (get_or ds at 0 % 4) n m; left = run_of (at + 3) n; right = run_of (at + 66) m }
+    record { sorted = sorted_by (get_or ds at 0 % 4) n m; left = run_of (at + 3) n; right = run_of (at + 66) m }
 
-unfoldable pub entry_of : List ℕ → ℕ → E.Entry
+unfoldable pub entry_of : List ℕ → ℕ → CodeOption E.Entry
 entry_of ds w =
-    cond (eqb (w / 256) 3) (cond (ltb (w % 256) (get_or ds 1 0)) (basis_entry ds (w % 256)) (bare_entry false))
-    (cond (eqb (w / 256) 26) (cond (ltb (w % 256) (get_or ds 2 0)) (variable_entry ds (w % 256)) (bare_entry false)) (bare_entry true))
+    cond (eqb (w / 256) 3) (cond (ltb (w % 256) (get_or ds 1 0)) (Some (basis_entry ds (w % 256))) None)
+    (cond (eqb (w / 256) 26) (cond (ltb (w % 256) (get_or ds 2 0)) (Some (variable_entry ds (w % 256))) None) (Some bare_entry))
 
 -- the words of the stack that the typing of a part of at most n words, no deeper than the budget, may take: a child's sort stays where another follows it, with a record of two words
 -- behind it where it is the first of a sum over a basis. So at most one a level, and one for two words of the term
@@ -86,25 +83,28 @@ abbrev pub need : ℕ → ℕ → ℕ
 need n budget = min (64 * n + 128) (128 * budget + 128)
 
 -- a typed part: it is whole and no deeper than the budget, and its words stand on the stack
-pub record Settled (Γ : Context) (ws : List ℕ) (budget top : ℕ) (r : Answer.Verdict) (st : List ℕ) : Type 0 where
+pub record Settled (Γ : Context) (ws : List ℕ) (budget top : ℕ) (p : P.Part) (st : List ℕ) : Type 0 where
   pub sort : Sort
   pub whole : 0 < length (part ws 0)
   pub is : type_of Γ 0 (tree_in (parse ws)) ≡ typed sort
-  pub size : r.size ≡ length (part ws 0)
-  pub depth : r.depth ≡ part_depth ws 0
+  pub size : p.size ≡ length (part ws 0)
+  pub depth : p.depth ≡ part_depth ws 0
   pub shallow : part_depth ws 0 ≤ budget
-  pub small : Small r.sorted
-  pub sorted : shape_at st top r.sorted ≡ shape_of sort
+  pub small : Small p.sorted
+  pub sorted : shape_at st top p.sorted ≡ shape_of sort
 
 -- any other: no whole part, or a deeper one, or untyped, at this offset
-abbrev pub Unsettled : Context → List ℕ → ℕ → Answer.Verdict → Type 0
-Unsettled Γ ws budget r = 0 < length (part ws 0) → part_depth ws 0 ≤ budget → type_of Γ 0 (tree_in (parse ws)) ≡ untyped r.at
+pub record Unsettled (Γ : Context) (ws : List ℕ) (budget k : ℕ) : Type 0 where
+  pub inside : k ≤ length ws
+  pub is : 0 < length (part ws 0) → part_depth ws 0 ≤ budget → type_of Γ 0 (tree_in (parse ws)) ≡ untyped k
 
-pub record Found (Γ : Context) (ws : List ℕ) (budget top : ℕ) (r : Answer.Verdict) (st st' : List ℕ) : Type 0 where
+abbrev pub Judged : Context → List ℕ → ℕ → ℕ → Result P.Part ℕ → List ℕ → Type 0
+Judged Γ ws budget top (Ok p) st = Settled Γ ws budget top p st
+Judged Γ ws budget top (Err k) st = Unsettled Γ ws budget k
+
+pub record Found (Γ : Context) (ws : List ℕ) (budget top : ℕ) (r : Result P.Part ℕ) (st st' : List ℕ) : Type 0 where
   pub kept : Above top st st'
-  pub bound : r.at ≤ length ws
-  pub settled : r.typed ≡ true → Settled Γ ws budget top r st'
-  pub unsettled : r.typed ≡ false → Unsettled Γ ws budget r
+  pub told : Judged Γ ws budget top r st'
 
 -- ---- a part is typed under good declarations, with the trees of the sums around it on the stack
 pub record Under (ds st : List ℕ) (top : ℕ) (a : Around) : Type 0 where
@@ -119,10 +119,10 @@ pub record Typable (ds ws st : List ℕ) (top budget : ℕ) (a : Around) : Type 
   pub few : a.bodies + budget ≤ 64
 
 -- what is found of a head without children, and of a part, whatever those trees are
-abbrev pub LeafFound : List ℕ → ℕ → ℕ → Around → C.Outcome → List ℕ → List ℕ → Type 0
+abbrev pub LeafFound : List ℕ → ℕ → ℕ → Around → CodeOption S.Sorted → List ℕ → List ℕ → Type 0
 LeafFound ds w top a r st st' = (x : Held (get_or ds 0 0) st top a) → Answers (leaf_of ds x.trees w) r top st st'
 
-abbrev pub PartFound : List ℕ → List ℕ → ℕ → ℕ → Around → Answer.Verdict → List ℕ → List ℕ → Type 0
+abbrev pub PartFound : List ℕ → List ℕ → ℕ → ℕ → Around → Result P.Part ℕ → List ℕ → List ℕ → Type 0
 PartFound ds ws budget top a r st st' = (x : Held (get_or ds 0 0) st top a) → Found (context_at ds x.trees) ws budget top r st st'
 
 -- the answer for words that are all of them the term's, or none: the tests 8, 13, 10 and 11
@@ -133,6 +133,10 @@ typing_in ds ws =
     (strayed (stray_of 0 0 (tree_in (parse ws))) (answer_of (length ws) (part_depth ws 0) (type_of (context_in ds) 0 (tree_in (parse ws)))))
     (refuse 8 0)
 
--- a kind by the number of its class
-abbrev pub kind_of : ℕ → ℕ → ℕ → K.Kind
-kind_of k rows columns = cond (eqb k 4) (Kinds.Ket rows) (cond (eqb k 5) (Kinds.Bra columns) (cond (eqb k 6) (Kinds.Operator rows columns) Kinds.Scalar))
+-- the kind of a type with such a sort; an index or a basis is no type
+abbrev pub kind_of : Class → ℕ → ℕ → CodeOption K.Kind
+kind_of Scalar n m = Some Kinds.Scalar
+kind_of Ket n m = Some (Kinds.Ket n)
+kind_of Bra n m = Some (Kinds.Bra m)
+kind_of Operator n m = Some (Kinds.Operator n m)
+kind_of _ n m = None

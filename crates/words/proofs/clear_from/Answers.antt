@@ -1,21 +1,17 @@
-use mathlib.Core.Path.{refl, sym, ◌∙◌}
+-- Each call of the closure gives 0, so the words from the offset on are zeros; from the end on there is nothing to clear.
+use mathlib.Core.Path.{◌≡◌, refl, sym}
 use native.Mathlib.Omega.{arith}
-use lib.ListN.{length-set}
-use Rattle.words.proofs.Runs.{cleared-end, cleared_more}
+use borrow.Author.Rules.{rules}
+use lib.ListN.{length, replicate}
+use Rattle.std.proofs.lemmas.Fn.{chained_keeps}
+use Rattle.words.proofs.Runs.{zeros_more, cleared-end, cleared_filled}
 use Rattle.words.proofs.clear_from.Goals as goal
 
-pub loop-i-init : goal.loop-i-init
-loop-i-init c = (refl, refl)
+pub returns-then-at-ws : goal.returns-then-at-ws
+returns-then-at-ws c =
+    let filled = c.fill_with.ensures in
+    let zeros = chained_keeps _ (λ ws f. ws ≡ replicate (length ws) 0) (λ ws f w g told call. zeros_more ws w told (search rules)) _ _ _ refl filled.ran.1 in
+    cleared_filled _ _ _ filled.len zeros (omega arith)
 
-pub loop-i-smaller : goal.loop-i-smaller
-loop-i-smaller c = simp length-set (omega arith)
-
-pub loop-i-preserved : goal.loop-i-preserved
-loop-i-preserved c =
-    let loop = c.loop-i in
-    (cleared_more loop.ws loop.i c.loop-i-test.true ∙ loop.invariant.0, simp length-set loop.invariant.1)
-
-pub returns : goal.returns
-returns c =
-    let loop = c.loop-i in
-    sym (cleared-end loop.ws loop.i c.loop-i-test.false) ∙ loop.invariant.0
+pub returns-else-at-ws : goal.returns-else-at-ws
+returns-else-at-ws c = sym (cleared-end _ _ (omega arith))

@@ -1,32 +1,16 @@
-use mathlib.Core.Path.{sym}
-use Prim.Native.Nat.{◌<◌}
-use native.Mathlib.Omega.{arith}
-use native.Mathlib.Numerals.{add-one}
-use borrow.Author.Tests.{ltb-true, ltb-false}
-use lib.ListN.{length}
-use lib.Seq.{take-suc}
+-- What the count tells, by the library's own rules; and that this is how many words agree.
+use mathlib.Core.Path.{◌≡◌, sym}
+use Prim.Native.Nat.{ℕ, ◌<◌}
+use lib.ListN.{length, get_or}
+use borrow.Author.Rules.{rules}
 use Rattle.words.proofs.Runs.{agreeing-is}
 use Rattle.words.proofs.first_difference.Goals as goal
 
-pub returns-then-a-i : goal.returns-then-a-i
-returns-then-a-i c =
-    let inv = c.loop-i.invariant in
-    sym (agreeing-is _ _ _ inv.0 inv.1 inv.2 (λ p q. c.if-a-i.true))
-
-pub loop-i-preserved : goal.loop-i-preserved
-loop-i-preserved c =
-    let loop = c.loop-i in
-    let args = c.args in
-    let p : loop.i < length args.a.now = omega arith in
-    let q : loop.i < length args.b.now = omega (arith, ltb-true) in
-    (omega arith, omega arith, rw (add-one, take-suc args.a.now loop.i 0, take-suc args.b.now loop.i 0, loop.invariant.2, c.if-a-i.false))
-
-pub returns-else-i-b : goal.returns-else-i-b
-returns-else-i-b c =
-    let inv = c.loop-i.invariant in
-    sym (agreeing-is _ _ _ inv.0 inv.1 inv.2 (λ p q. omega (arith, ltb-false)))
-
-pub returns-after-loop-i : goal.returns-after-loop-i
-returns-after-loop-i c =
-    let inv = c.loop-i.invariant in
-    sym (agreeing-is _ _ _ inv.0 inv.1 inv.2 (λ p q. omega arith))
+pub returns : goal.returns
+returns c =
+    let a = c.args.a.now in
+    let b = c.args.b.now in
+    let n = c.count.result in
+    let there : n < length a → n < length b → get_or a n 0 ≡ get_or b n 0 → ⊥ = search rules in
+    let below : (k : ℕ) → k < n → get_or a k 0 ≡ get_or b k 0 = search rules in
+    sym (agreeing-is a b n (search rules) (search rules) below there)

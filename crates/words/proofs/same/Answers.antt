@@ -1,3 +1,4 @@
+-- Runs of other lengths differ, and two of one length are the same where all their words are.
 use mathlib.Core.Path.{sym, ◌∙◌}
 use native.Mathlib.Omega.{arith}
 use borrow.Author.Rules.{rules}
@@ -14,14 +15,7 @@ unfolding same_words
 loop-i-init c = search rules
 
 pub loop-i-preserved : goal.loop-i-preserved
-loop-i-preserved c =
-    let loop = c.loop-i in
-    let z = c.if-a-b.false in
-    (omega arith, c.agrees-alike.ensures ∙ rw loop.invariant.1 (sym (same_more loop.i _ _ (omega arith) (omega arith))))
+loop-i-preserved c = rw c.loop-i.invariant (same_more c.args.a.now c.args.b.now c.loop-i.i (omega arith) (omega arith))
 
 pub returns : goal.returns
-returns c =
-    let loop = c.loop-i in
-    let z = c.if-a-b.false in
-    let args = c.args in
-    loop.invariant.1 ∙ rw (take_all loop.i args.a.now (omega arith), take_all loop.i args.b.now (omega arith))
+returns c = let a = c.args in let i = c.loop-i.i in c.loop-i.invariant ∙ rw (take_all i a.a.now (omega arith), take_all i a.b.now (omega arith))

@@ -1,9 +1,8 @@
-use mathlib.Core.Path.{sym, ◌∙◌}
-use Rattle.cases.proofs.Slices.{filled-end, filled_more}
+use Rattle.cases.proofs.Slices.{filled-end, filled_put}
 use Rattle.cases.proofs.input.fill.Goals as goal
 
-pub loop-i-preserved : goal.loop-i-preserved
-loop-i-preserved c = let loop = c.loop-i in rw c.store.ensures (filled_more loop.ws loop.i _ _ c.loop-i-test.true ∙ loop.invariant)
+pub returns-then-from-end : goal.returns-then-from-end
+returns-then-from-end c = filled_put _ _ _ _ _ _ c.min-end.ensures c.if-from-end.true (c.fill.ensures.after (λ y h. h))
 
-pub returns : goal.returns
-returns c = let loop = c.loop-i in sym (filled-end loop.ws loop.i _ _ c.loop-i-test.false) ∙ loop.invariant
+pub returns-else-from-end : goal.returns-else-from-end
+returns-else-from-end c = filled-end _ _ _ _ _ c.min-end.ensures c.if-from-end.false

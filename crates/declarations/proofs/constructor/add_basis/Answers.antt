@@ -15,4 +15,4 @@ pub shape_of-ds : goal.shape_of-ds
 shape_of-ds c = c.lay.auto.ds ∙ simp length-set
 
 pub returns : goal.returns
-returns c = c.lay.ensures ∙ basis_laid _ _ _ refl
+returns c = c.lay.ensures ∙ rw c.from.ensures (basis_laid _ _ _ refl)

@@ -21,4 +21,4 @@ shape_of-ds c =
 
 pub returns : goal.returns
 returns c =
-    c.lay-3.ensures ∙ rw (c.lay-2.ensures, c.lay.ensures) (variable_laid _ _ _ _ _ refl)
+    c.lay-3.ensures ∙ rw (c.lay-2.ensures, c.lay.ensures, c.from.ensures) (variable_laid _ _ _ _ _ refl)

@@ -1,20 +1,30 @@
--- The answer is told before anything is stored; where it is done, there is room and what is put is short.
-use mathlib.Core.Path.{◌∙◌}
+-- The room is told first, and then whether what is put fits; where both are so, it is short.
+use mathlib.Core.Path.{refl, sym, ◌∙◌}
 use native.Mathlib.Omega.{arith}
-use Rattle.declarations.specs.Put.{leaves}
+use Rattle.std.proofs.lemmas.Result.{err_from_is_err_and}
+use Rattle.declarations.specs.Put.{answer, leaves}
 use Rattle.declarations.proofs.Entries.{index_tests}
-use Rattle.declarations.proofs.Put.{put-done, not_done}
+use Rattle.declarations.proofs.Put.{room-done}
 use Rattle.declarations.proofs.constructor.put_basis.Goals as goal
+
+pub bounds-ds-0 : goal.bounds-ds-0
+bounds-ds-0 c = let r = room-done _ 1 (sym c.in_ok-room_for.ensures) in omega arith
 
 pub add_basis-requires : goal.add_basis-requires
 add_basis-requires c =
-    let done = put-done _ 1 c.answer_for-r.ensures c.is_index.ensures c.in-Done.is in
-    let short = index_tests _ _ done.1 in omega arith
+    let r = room-done _ 1 (sym c.in_ok-room_for.ensures) in
+    let short = index_tests _ _ (sym c.is_index.ensures ∙ c.if-not-is_index.false) in omega arith
 
-pub returns-in-Done : goal.returns-in-Done
-unfolding leaves
-returns-in-Done c =
-    record { value = c.answer_for-r.ensures ∙ rw (c.is_index.ensures, c.word_at-types.ensures); ds_after = rw c.in-Done.is c.add_basis.ensures }
+pub returns-in_err-room_for : goal.returns-in_err-room_for
+unfolding answer leaves
+returns-in_err-room_for c =
+    let p = err_from_is_err_and c.from_residual.result c.from_residual.ensures.1 in
+    record { value = rw (p.1, p.2, ← c.in_err-room_for.ensures); ds_after = rw p.1 }
 
-pub returns-in_default : goal.returns-in_default
-returns-in_default c = record { value = c.answer_for-r.ensures ∙ rw (c.is_index.ensures, c.word_at-types.ensures); ds_after = not_done _ _ _ c.in_default.not-Done }
+pub returns-then-not-is_index : goal.returns-then-not-is_index
+unfolding answer leaves
+returns-then-not-is_index c = record { value = rw (← c.in_ok-room_for.ensures, ← c.from.ensures, sym c.is_index.ensures ∙ c.if-not-is_index.true); ds_after = refl }
+
+pub returns : goal.returns
+unfolding answer leaves
+returns c = record { value = rw (← c.in_ok-room_for.ensures, ← c.from.ensures, sym c.is_index.ensures ∙ c.if-not-is_index.false); ds_after = c.add_basis.ensures }

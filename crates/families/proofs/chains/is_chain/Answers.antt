@@ -4,4 +4,4 @@ use Rattle.families.proofs.Heads.{sum-heads}
 use Rattle.families.proofs.chains.is_chain.Goals as goal
 
 pub returns : goal.returns
-returns c = c.is_sum.ensures ∙ sum-heads _
+returns c = c.is_sum.ensures ∙ rw c.from.ensures (sum-heads _)

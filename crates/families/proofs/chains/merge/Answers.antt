@@ -2,98 +2,34 @@
 use mathlib.Core.Path.{◌≡◌, sym, ◌∙◌}
 use mathlib.Core.Bool.{true}
 use native.Mathlib.Omega.{arith}
-use borrow.Author.Tests.{not-true, not-false}
+use lib.ListN.{get_or}
 use Rattle.words.proofs.Runs.{added_as}
+use Rattle.families.specs.Code.Families.{chain_word}
 use Rattle.families.proofs.Split.{some_word}
-use Rattle.families.proofs.Written.{refuses, writes}
-use Rattle.families.proofs.Merged.{merges_other, Merging, merges-none, merges-child, child-inside, low_bytes, merged_few, merged_words}
+use Rattle.families.proofs.Written.{refuses, refuses_none, writes}
+use Rattle.families.proofs.Merged.{merges_other, merges-none, merges-child, child-inside, merged_few, merged_words}
+use Rattle.families.proofs.Whole.{whole}
 use Rattle.families.proofs.chains.merge.Goals as goal
 
-pub bounds-ws-0 : goal.bounds-ws-0
-bounds-ws-0 c = some_word c.requires
+pub bounds-part-0 : goal.bounds-part-0
+bounds-part-0 c = some_word (whole c.args.part.whole)
 
 pub returns-then-not-is_chain : goal.returns-then-not-is_chain
-returns-then-not-is_chain c = λ Γ. refuses _ (merges_other Γ _ c.requires (sym c.is_chain.ensures ∙ c.if-not-is_chain.true))
+returns-then-not-is_chain c = λ Γ. refuses _ (merges_other Γ _ (whole c.args.part.whole) (sym c.is_chain.ensures ∙ c.if-not-is_chain.true))
 
-pub returns-then-not-c : goal.returns-then-not-c
-returns-then-not-c c =
-    let merging : let args = c.args in Merging args.ws.now args.i c.child_under-c.result = record {
-      whole = c.requires;
-      chained = sym c.is_chain.ensures ∙ c.if-not-is_chain.false;
-      under = c.child_under-c.ensures;
-    } in
-    λ Γ. refuses _ (merges-none merging Γ (not-true _ c.if-not-c.true))
+pub returns-in_err-c : goal.returns-in_err-c
+returns-in_err-c c = λ Γ.
+    let none = c.in_err-c.ensures in
+    refuses_none _ c.child_under.result c.from_residual.result (merges-none (whole c.args.part.whole) (sym c.is_chain.ensures ∙ c.if-not-is_chain.false) Γ (rw none.ok_part at c.child_under.ensures)) none.value
+    c.from_residual.ensures.1
 
-pub offset_bounds-ws-start : goal.offset_bounds-ws-start
-offset_bounds-ws-start c =
-    let merging : let args = c.args in Merging args.ws.now args.i c.child_under-c.result = record {
-      whole = c.requires;
-      chained = sym c.is_chain.ensures ∙ c.if-not-is_chain.false;
-      under = c.child_under-c.ensures;
-    } in
-    let there : c.child_under-c.result.there ≡ true = (not-false _ c.if-not-c.false) in
-    omega (arith, child-inside merging there)
-
-pub bounds-ws-start : goal.bounds-ws-start
-bounds-ws-start c =
-    let merging : let args = c.args in Merging args.ws.now args.i c.child_under-c.result = record {
-      whole = c.requires;
-      chained = sym c.is_chain.ensures ∙ c.if-not-is_chain.false;
-      under = c.child_under-c.ensures;
-    } in
-    let there : c.child_under-c.result.there ≡ true = (not-false _ c.if-not-c.false) in
-    omega (arith, child-inside merging there)
-
-pub overflow_sub-head : goal.overflow_sub-head
-overflow_sub-head c =
-    let merging : let args = c.args in Merging args.ws.now args.i c.child_under-c.result = record {
-      whole = c.requires;
-      chained = sym c.is_chain.ensures ∙ c.if-not-is_chain.false;
-      under = c.child_under-c.ensures;
-    } in
-    let there : c.child_under-c.result.there ≡ true = (not-false _ c.if-not-c.false) in
-    omega (arith, low_bytes merging there)
-
-pub overflow_add-head-2 : goal.overflow_add-head-2
-overflow_add-head-2 c =
-    let merging : let args = c.args in Merging args.ws.now args.i c.child_under-c.result = record {
-      whole = c.requires;
-      chained = sym c.is_chain.ensures ∙ c.if-not-is_chain.false;
-      under = c.child_under-c.ensures;
-    } in
-    let there : c.child_under-c.result.there ≡ true = (not-false _ c.if-not-c.false) in
-    let low = low_bytes merging there in
-    omega (arith, c.shared_slice_known-2-1.given 0)
-
-pub overflow_add-start : goal.overflow_add-start
-overflow_add-start c =
-    let merging : let args = c.args in Merging args.ws.now args.i c.child_under-c.result = record {
-      whole = c.requires;
-      chained = sym c.is_chain.ensures ∙ c.if-not-is_chain.false;
-      under = c.child_under-c.ensures;
-    } in
-    let there : c.child_under-c.result.there ≡ true = (not-false _ c.if-not-c.false) in
-    omega (arith, child-inside merging there)
-
-pub append_without-done-requires : goal.append_without-done-requires
-append_without-done-requires c =
-    let merging : let args = c.args in Merging args.ws.now args.i c.child_under-c.result = record {
-      whole = c.requires;
-      chained = sym c.is_chain.ensures ∙ c.if-not-is_chain.false;
-      under = c.child_under-c.ensures;
-    } in
-    let there : c.child_under-c.result.there ≡ true = (not-false _ c.if-not-c.false) in
-    omega (arith, child-inside merging there)
+pub append_without-requires : goal.append_without-requires
+append_without-requires c =
+    omega (arith, child-inside (whole c.args.part.whole) (sym c.is_chain.ensures ∙ c.if-not-is_chain.false) (rw c.in_ok-c.ensures.ok_part at c.child_under.ensures))
 
 pub returns : goal.returns
-returns c =
-    let merging : let args = c.args in Merging args.ws.now args.i c.child_under-c.result = record {
-      whole = c.requires;
-      chained = sym c.is_chain.ensures ∙ c.if-not-is_chain.false;
-      under = c.child_under-c.ensures;
-    } in
-    let there : c.child_under-c.result.there ≡ true = (not-false _ c.if-not-c.false) in
-    λ Γ.
-    let m = merging in
-    let t = there in
-    writes _ _ (merges-child m t Γ) (merged_few m t (omega arith)) (added_as (merged_words m t) c.append_without-done.ensures)
+returns c = λ Γ.
+    let w = whole c.args.part.whole in
+    let k : chain_word (get_or c.args.part.words.now 0 0) ≡ true = sym c.is_chain.ensures ∙ c.if-not-is_chain.false in
+    let e = rw c.in_ok-c.ensures.ok_part at c.child_under.ensures in
+    writes _ _ (merges-child w k e Γ) (merged_few w k e (omega arith)) (added_as (merged_words w k e) c.append_without.ensures)

@@ -1,26 +1,27 @@
 -- The child is found or the part is refused, and the result is a node with one child less.
 use native.Mathlib.Omega.{arith}
-use borrow.Author.Tests.{not-true, not-false}
 use Rattle.words.proofs.Runs.{added_as}
 use Rattle.families.proofs.Split.{some_word, child-bounds}
 use Rattle.families.proofs.Tested.{found}
-use Rattle.families.proofs.Written.{refuses, writes}
+use Rattle.families.proofs.Written.{refuses_none, writes}
 use Rattle.families.proofs.Removed.{removes-none, removes-child, removed_words, removed_few}
+use Rattle.families.proofs.Whole.{whole}
 use Rattle.families.proofs.chains.remove.Goals as goal
 
-pub bounds-ws-0 : goal.bounds-ws-0
-bounds-ws-0 c = some_word c.requires
+pub bounds-part-0 : goal.bounds-part-0
+bounds-part-0 c = some_word (whole c.args.part.whole)
 
-pub returns-then-not-c : goal.returns-then-not-c
-returns-then-not-c c = λ l d P N Γ. refuses _ (removes-none Γ P N c.requires c.child_under-c.ensures (not-true _ c.if-not-c.true))
+pub returns-in_err-c : goal.returns-in_err-c
+returns-in_err-c c = λ l d P N Γ.
+    let none = c.in_err-c.ensures in
+    refuses_none _ c.child_under.result c.from_residual.result (removes-none Γ P N (whole c.args.part.whole) (rw none.ok_part at c.child_under.ensures)) none.value c.from_residual.ensures.1
 
-pub append_without-done-requires : goal.append_without-done-requires
-append_without-done-requires c =
-    omega (arith, child-bounds (found c.requires c.child_under-c.ensures (not-false _ c.if-not-c.false)))
+pub append_without-requires : goal.append_without-requires
+append_without-requires c =
+    omega (arith, child-bounds (found (whole c.args.part.whole) (rw c.in_ok-c.ensures.ok_part at c.child_under.ensures)))
 
 pub returns : goal.returns
 returns c = λ l d P N Γ.
-    let w = c.requires in
-    let e = c.child_under-c.ensures in
-    let t = (not-false _ c.if-not-c.false) in
-    writes _ _ (removes-child Γ P N w e t (omega arith)) (removed_few Γ P N w e t) (added_as (removed_words Γ P N w e t) c.append_without-done.ensures)
+    let w = whole c.args.part.whole in
+    let e = rw c.in_ok-c.ensures.ok_part at c.child_under.ensures in
+    writes _ _ (removes-child Γ P N w e (omega arith)) (removed_few Γ P N w e) (added_as (removed_words Γ P N w e) c.append_without.ensures)

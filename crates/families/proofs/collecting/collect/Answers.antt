@@ -1,142 +1,137 @@
 -- Each refusal is one law, and the result is a node with one child less, whose last is new.
 use mathlib.Core.Logic.{⊎_elim}
+use mathlib.Core.Path.{sym, ◌∙◌}
 use native.Mathlib.Omega.{arith}
-use Prim.Native.Nat.{◌≤◌}
-use borrow.Author.Tests.{not-true, not-false}
-use lib.ListN.{length}
-use Rattle.families.proofs.Split.{some_word, no_child_lem}
-use Rattle.families.proofs.Written.{refuses, writes}
+use Rattle.families.proofs.Split.{some_word, no_child}
+use Rattle.families.proofs.Written.{refuses, refuses_none, writes}
 use Rattle.families.proofs.Pairs.{Pair, pair, pair-bounds}
-use Rattle.families.proofs.Multiples.{Sought, locate, located_end}
-use Rattle.families.proofs.Collected.{collects_other, collects-order, collects-outside, Both, both-same, collects_unlike, collects-both}
+use Rattle.families.proofs.Multiples.{locate}
+use Rattle.families.proofs.Collected.{collects_other, collects-order, collects-outside, collects-none, Placed, placed, both-same, collects-no_first, collects-no_second, collects-unlike, collects-both}
 use Rattle.families.proofs.Gathered.{both-few, both_added}
+use Rattle.families.proofs.Whole.{whole}
 use Rattle.families.proofs.collecting.collect.Goals as goal
+use Rattle.families.proofs.collecting.collect.Goals.{In_ok-second, In_ok-y}
 
-pub bounds-ws-0 : goal.bounds-ws-0
-bounds-ws-0 c = some_word c.requires
+-- the two children, once both are found
+both : (c : In_ok-second)
+    → Pair c.args.part.words.now c.args.i c.args.j c.in_ok-first.first.start c.in_ok-first.first.end c.in_ok-second.second.start c.in_ok-second.second.end
+both c = pair (whole c.args.part.whole) c.if-j-i.false (sym c.in_ok-first.ensures.ok_part ∙ c.child.ensures) (sym c.in_ok-second.ensures.ok_part ∙ c.child-2.ensures)
 
-pub returns-then-ws-ne-SUM : goal.returns-then-ws-ne-SUM
-returns-then-ws-ne-SUM c = λ x y e e' Γ.
-    let w = c.requires in
-    refuses _ (⊎_elim (λ t. collects_other Γ x y _ _ w t) (λ t. collects-order Γ x y _ _ w t.1) c.then-ws-ne-SUM.either)
+-- and where they stand, once their X are
+stand : (c : In_ok-y) → Placed c.args.part.words.now c.in_ok-first.first c.in_ok-second.second c.in_ok-x.x c.in_ok-y.y
+stand c = placed c.args.i_scaled c.args.j_scaled (whole c.args.part.whole) c.if-j-i.false (sym c.in_ok-first.ensures.ok_part ∙ c.child.ensures) (sym c.in_ok-second.ensures.ok_part ∙ c.child-2.ensures)
+    (sym c.in_ok-x.ensures.ok_part ∙ c.x_of.ensures) (sym c.in_ok-y.ensures.ok_part ∙ c.x_of-2.ensures)
 
-pub returns-then-not-second : goal.returns-then-not-second
-returns-then-not-second c = λ x y e e' Γ.
-    refuses _ (collects-outside Γ x y _ _ c.requires (no_child_lem _ _ c.child_at-second.ensures (not-true _ c.if-not-second.true)))
+pub bounds-part-0 : goal.bounds-part-0
+bounds-part-0 c = some_word (whole c.args.part.whole)
 
-pub x_of-x-requires : goal.x_of-x-requires
-x_of-x-requires c =
-    let found : let args = c.args in Pair args.ws.now args.i args.j c.child_at-first.result.start c.child_at-first.result.end c.child_at-second.result.start c.child_at-second.result.end = let w = c.requires in
-    pair w c.if-j-i.false c.child_at-first.ensures c.child_at-second.ensures (not-false _ c.if-not-second.false) in
-    omega (arith, pair-bounds found)
+pub returns-then-part-ne-SUM : goal.returns-then-part-ne-SUM
+returns-then-part-ne-SUM c = λ Γ.
+    let w = whole c.args.part.whole in
+    refuses _ (⊎_elim (λ t. collects_other Γ _ _ _ _ w t) (λ t. collects-order Γ _ _ _ _ w t.1) c.then-part-ne-SUM.either)
 
-pub x_of-y-requires : goal.x_of-y-requires
-x_of-y-requires c =
-    let found : let args = c.args in Pair args.ws.now args.i args.j c.child_at-first.result.start c.child_at-first.result.end c.child_at-second.result.start c.child_at-second.result.end = let w = c.requires in
-    pair w c.if-j-i.false c.child_at-first.ensures c.child_at-second.ensures (not-false _ c.if-not-second.false) in
-    omega (arith, pair-bounds found)
+pub returns-in_err-first : goal.returns-in_err-first
+returns-in_err-first c = λ Γ.
+    let none = c.in_err-first.ensures in
+    refuses_none _ c.child.result c.from_residual.result
+    (collects-none Γ _ _ _ _ (whole c.args.part.whole) (omega (arith, c.if-j-i.false)) (no_child _ _ (sym none.ok_part ∙ c.child.ensures))) none.value c.from_residual.ensures.1
 
-pub same_x-requires : goal.same_x-requires
-same_x-requires c =
-    let found : let args = c.args in Pair args.ws.now args.i args.j c.child_at-first.result.start c.child_at-first.result.end c.child_at-second.result.start c.child_at-second.result.end = let w = c.requires in
-    pair w c.if-j-i.false c.child_at-first.ensures c.child_at-second.ensures (not-false _ c.if-not-second.false) in
-    let first-x : Sought found.first c.args.u c.x_of-x.result = locate found.first c.args.u c.x_of-x.ensures in
-    let second-x : Sought found.second c.args.v c.x_of-y.result = locate found.second c.args.v c.x_of-y.ensures in
-    let b = pair-bounds found in (located_end first-x, omega arith, located_end second-x, b.4)
+pub returns-in_err-second : goal.returns-in_err-second
+returns-in_err-second c = λ Γ.
+    let none = c.in_err-second.ensures in
+    refuses_none _ c.child-2.result c.from_residual-in_err-second.result
+    (collects-outside Γ _ _ _ _ (whole c.args.part.whole) (no_child _ _ (sym none.ok_part ∙ c.child-2.ensures))) none.value c.from_residual-in_err-second.ensures.1
 
-pub returns-then-not-same_x : goal.returns-then-not-same_x
-returns-then-not-same_x c =
-    let found : let args = c.args in Pair args.ws.now args.i args.j c.child_at-first.result.start c.child_at-first.result.end c.child_at-second.result.start c.child_at-second.result.end = let w = c.requires in
-    pair w c.if-j-i.false c.child_at-first.ensures c.child_at-second.ensures (not-false _ c.if-not-second.false) in
-    let first-x : Sought found.first c.args.u c.x_of-x.result = locate found.first c.args.u c.x_of-x.ensures in
-    let second-x : Sought found.second c.args.v c.x_of-y.result = locate found.second c.args.v c.x_of-y.ensures in
-    λ x y e e' Γ.
-    let head = c.if-ws-ne-SUM.false in
-    refuses _ (collects_unlike found Γ x y e e' head first-x second-x c.same_x.ensures c.if-not-same_x.true)
+pub returns-in_err-x : goal.returns-in_err-x
+returns-in_err-x c = λ Γ.
+    let p = both (goal.at.returns-in_err-x c).In_ok-second in
+    let none = c.in_err-x.ensures in
+    refuses_none _ c.x_of.result c.from_residual-in_err-x.result (collects-no_first p Γ _ _ c.if-part-ne-SUM.false (locate p.first _ (sym none.ok_part ∙ c.x_of.ensures))) none.value
+    c.from_residual-in_err-x.ensures.1
+
+pub returns-in_err-y : goal.returns-in_err-y
+returns-in_err-y c = λ Γ.
+    let p = both (goal.at.returns-in_err-y c).In_ok-second in
+    let none = c.in_err-y.ensures in
+    refuses_none _ c.x_of-2.result c.from_residual-in_err-y.result (collects-no_second p Γ _ _ c.if-part-ne-SUM.false (locate p.second _ (sym none.ok_part ∙ c.x_of-2.ensures))) none.value
+    c.from_residual-in_err-y.ensures.1
+
+pub x_of-requires : goal.x_of-requires
+x_of-requires c = omega (arith, pair-bounds (both (goal.at.x_of-requires c).In_ok-second))
+
+pub x_of-requires-2 : goal.x_of-requires-2
+x_of-requires-2 c = omega (arith, pair-bounds (both (goal.at.x_of-requires-2 c).In_ok-second))
+
+pub offset_bounds-part-x : goal.offset_bounds-part-x
+offset_bounds-part-x c =
+    let p = stand (goal.at.offset_bounds-part-x c).In_ok-y in
+    omega (arith, c.well_formed.0, p.front, p.back)
+
+pub slice_bounds-same-count : goal.slice_bounds-same-count
+slice_bounds-same-count c = (stand (goal.at.slice_bounds-same-count c).In_ok-y).front.2
+
+pub slice_bounds-same-start : goal.slice_bounds-same-start
+slice_bounds-same-start c = (stand (goal.at.slice_bounds-same-start c).In_ok-y).front.2
+
+pub slice_bounds-same-end : goal.slice_bounds-same-end
+slice_bounds-same-end c = (stand (goal.at.slice_bounds-same-end c).In_ok-y).front.3
+
+pub offset_bounds-part-y : goal.offset_bounds-part-y
+offset_bounds-part-y c =
+    let p = stand (goal.at.offset_bounds-part-y c).In_ok-y in
+    omega (arith, c.well_formed.0, p.front, p.back)
+
+pub slice_bounds-same-count-2 : goal.slice_bounds-same-count-2
+slice_bounds-same-count-2 c = (stand (goal.at.slice_bounds-same-count-2 c).In_ok-y).back.3
+
+pub slice_bounds-same-start-2 : goal.slice_bounds-same-start-2
+slice_bounds-same-start-2 c = (stand (goal.at.slice_bounds-same-start-2 c).In_ok-y).back.3
+
+pub slice_bounds-same-end-2 : goal.slice_bounds-same-end-2
+slice_bounds-same-end-2 c = (stand (goal.at.slice_bounds-same-end-2 c).In_ok-y).back.4
+
+pub returns-then-not-same : goal.returns-then-not-same
+returns-then-not-same c = λ Γ.
+    let p = both (goal.at.returns-then-not-same c).In_ok-second in
+    let x = locate p.first _ (sym c.in_ok-x.ensures.ok_part ∙ c.x_of.ensures) in
+    let y = locate p.second _ (sym c.in_ok-y.ensures.ok_part ∙ c.x_of-2.ensures) in
+    refuses _ (collects-unlike p Γ _ _ c.if-part-ne-SUM.false x y c.same.ensures c.if-not-same.true)
 
 pub factor-c-requires : goal.factor-c-requires
 factor-c-requires c =
-    let found : let args = c.args in Pair args.ws.now args.i args.j c.child_at-first.result.start c.child_at-first.result.end c.child_at-second.result.start c.child_at-second.result.end = let w = c.requires in
-    pair w c.if-j-i.false c.child_at-first.ensures c.child_at-second.ensures (not-false _ c.if-not-second.false) in
-    let first-x : Sought found.first c.args.u c.x_of-x.result = locate found.first c.args.u c.x_of-x.ensures in
-    let second-x : Sought found.second c.args.v c.x_of-y.result = locate found.second c.args.v c.x_of-y.ensures in
-    let both : let args = c.args in Both found args.u args.v c.x_of-x.result c.x_of-y.result = let args = c.args in
-    both-same found args.u args.v first-x second-x c.same_x.ensures c.if-not-same_x.false in
-    omega (arith, both.bounds, pair-bounds found)
+    let p = stand (goal.at.factor-c-requires c).In_ok-y in
+    (p.front.1, omega (arith, p.front))
 
 pub factor-d-requires : goal.factor-d-requires
 factor-d-requires c =
-    let found : let args = c.args in Pair args.ws.now args.i args.j c.child_at-first.result.start c.child_at-first.result.end c.child_at-second.result.start c.child_at-second.result.end = let w = c.requires in
-    pair w c.if-j-i.false c.child_at-first.ensures c.child_at-second.ensures (not-false _ c.if-not-second.false) in
-    let first-x : Sought found.first c.args.u c.x_of-x.result = locate found.first c.args.u c.x_of-x.ensures in
-    let second-x : Sought found.second c.args.v c.x_of-y.result = locate found.second c.args.v c.x_of-y.ensures in
-    let both : let args = c.args in Both found args.u args.v c.x_of-x.result c.x_of-y.result = let args = c.args in
-    both-same found args.u args.v first-x second-x c.same_x.ensures c.if-not-same_x.false in
-    omega (arith, both.bounds, pair-bounds found)
-
-pub bounds-ws-0-2 : goal.bounds-ws-0-2
-bounds-ws-0-2 c = some_word c.requires
+    let p = stand (goal.at.factor-d-requires c).In_ok-y in
+    (p.back.2, omega (arith, p.back))
 
 pub append_others-kept-requires : goal.append_others-kept-requires
 append_others-kept-requires c =
-    let found : let args = c.args in Pair args.ws.now args.i args.j c.child_at-first.result.start c.child_at-first.result.end c.child_at-second.result.start c.child_at-second.result.end = let w = c.requires in
-    pair w c.if-j-i.false c.child_at-first.ensures c.child_at-second.ensures (not-false _ c.if-not-second.false) in
-    omega (arith, pair-bounds found)
+    let p = stand (goal.at.append_others-kept-requires c).In_ok-y in
+    omega (arith, p.front, p.back)
 
-pub offset_bounds-ws-x : goal.offset_bounds-ws-x
-offset_bounds-ws-x c =
-    let found : let args = c.args in Pair args.ws.now args.i args.j c.child_at-first.result.start c.child_at-first.result.end c.child_at-second.result.start c.child_at-second.result.end = let w = c.requires in
-    pair w c.if-j-i.false c.child_at-first.ensures c.child_at-second.ensures (not-false _ c.if-not-second.false) in
-    let first-x : Sought found.first c.args.u c.x_of-x.result = locate found.first c.args.u c.x_of-x.ensures in
-    let second-x : Sought found.second c.args.v c.x_of-y.result = locate found.second c.args.v c.x_of-y.ensures in
-    let both : let args = c.args in Both found args.u args.v c.x_of-x.result c.x_of-y.result = let args = c.args in
-    both-same found args.u args.v first-x second-x c.same_x.ensures c.if-not-same_x.false in
-    let x-inside : (c.x_of-x.result ≤ c.child_at-first.result.end) × (c.child_at-first.result.end ≤ length c.args.ws.now) = omega (arith, both.bounds, pair-bounds found) in
-    omega (arith, c.well_formed.0, x-inside)
+pub offset_bounds-part-x-2 : goal.offset_bounds-part-x-2
+offset_bounds-part-x-2 c =
+    let p = stand (goal.at.offset_bounds-part-x-2 c).In_ok-y in
+    omega (arith, c.well_formed.0, p.front, p.back)
 
 pub slice_bounds-append_multiple-count : goal.slice_bounds-append_multiple-count
-slice_bounds-append_multiple-count c =
-    let found : let args = c.args in Pair args.ws.now args.i args.j c.child_at-first.result.start c.child_at-first.result.end c.child_at-second.result.start c.child_at-second.result.end = let w = c.requires in
-    pair w c.if-j-i.false c.child_at-first.ensures c.child_at-second.ensures (not-false _ c.if-not-second.false) in
-    let first-x : Sought found.first c.args.u c.x_of-x.result = locate found.first c.args.u c.x_of-x.ensures in
-    let second-x : Sought found.second c.args.v c.x_of-y.result = locate found.second c.args.v c.x_of-y.ensures in
-    let both : let args = c.args in Both found args.u args.v c.x_of-x.result c.x_of-y.result = let args = c.args in
-    both-same found args.u args.v first-x second-x c.same_x.ensures c.if-not-same_x.false in
-    let x-inside : (c.x_of-x.result ≤ c.child_at-first.result.end) × (c.child_at-first.result.end ≤ length c.args.ws.now) = omega (arith, both.bounds, pair-bounds found) in
-    x-inside.0
+slice_bounds-append_multiple-count c = (stand (goal.at.slice_bounds-append_multiple-count c).In_ok-y).front.2
 
 pub slice_bounds-append_multiple-start : goal.slice_bounds-append_multiple-start
-slice_bounds-append_multiple-start c =
-    let found : let args = c.args in Pair args.ws.now args.i args.j c.child_at-first.result.start c.child_at-first.result.end c.child_at-second.result.start c.child_at-second.result.end = let w = c.requires in
-    pair w c.if-j-i.false c.child_at-first.ensures c.child_at-second.ensures (not-false _ c.if-not-second.false) in
-    let first-x : Sought found.first c.args.u c.x_of-x.result = locate found.first c.args.u c.x_of-x.ensures in
-    let second-x : Sought found.second c.args.v c.x_of-y.result = locate found.second c.args.v c.x_of-y.ensures in
-    let both : let args = c.args in Both found args.u args.v c.x_of-x.result c.x_of-y.result = let args = c.args in
-    both-same found args.u args.v first-x second-x c.same_x.ensures c.if-not-same_x.false in
-    let x-inside : (c.x_of-x.result ≤ c.child_at-first.result.end) × (c.child_at-first.result.end ≤ length c.args.ws.now) = omega (arith, both.bounds, pair-bounds found) in
-    x-inside.0
+slice_bounds-append_multiple-start c = (stand (goal.at.slice_bounds-append_multiple-start c).In_ok-y).front.2
 
 pub slice_bounds-append_multiple-end : goal.slice_bounds-append_multiple-end
-slice_bounds-append_multiple-end c =
-    let found : let args = c.args in Pair args.ws.now args.i args.j c.child_at-first.result.start c.child_at-first.result.end c.child_at-second.result.start c.child_at-second.result.end = let w = c.requires in
-    pair w c.if-j-i.false c.child_at-first.ensures c.child_at-second.ensures (not-false _ c.if-not-second.false) in
-    let first-x : Sought found.first c.args.u c.x_of-x.result = locate found.first c.args.u c.x_of-x.ensures in
-    let second-x : Sought found.second c.args.v c.x_of-y.result = locate found.second c.args.v c.x_of-y.ensures in
-    let both : let args = c.args in Both found args.u args.v c.x_of-x.result c.x_of-y.result = let args = c.args in
-    both-same found args.u args.v first-x second-x c.same_x.ensures c.if-not-same_x.false in
-    let x-inside : (c.x_of-x.result ≤ c.child_at-first.result.end) × (c.child_at-first.result.end ≤ length c.args.ws.now) = omega (arith, both.bounds, pair-bounds found) in
-    x-inside.1
+slice_bounds-append_multiple-end c = (stand (goal.at.slice_bounds-append_multiple-end c).In_ok-y).front.3
 
 pub returns : goal.returns
-returns c =
-    let found : let args = c.args in Pair args.ws.now args.i args.j c.child_at-first.result.start c.child_at-first.result.end c.child_at-second.result.start c.child_at-second.result.end = let w = c.requires in
-    pair w c.if-j-i.false c.child_at-first.ensures c.child_at-second.ensures (not-false _ c.if-not-second.false) in
-    let first-x : Sought found.first c.args.u c.x_of-x.result = locate found.first c.args.u c.x_of-x.ensures in
-    let second-x : Sought found.second c.args.v c.x_of-y.result = locate found.second c.args.v c.x_of-y.ensures in
-    let both : let args = c.args in Both found args.u args.v c.x_of-x.result c.x_of-y.result = let args = c.args in
-    both-same found args.u args.v first-x second-x c.same_x.ensures c.if-not-same_x.false in
-    λ x y e e' Γ.
-    let p = found in
-    let head = c.if-ws-ne-SUM.false in
-    writes _ _ (collects-both p Γ x y e e' head both) (both-few p both)
-    (both_added p both head c.factor-c.ensures c.factor-d.ensures c.append_others-kept.ensures c.append_multiple-done.ensures)
+returns c = λ Γ.
+    let p = both (goal.at.returns c).In_ok-second in
+    let x = locate p.first c.args.i_scaled (sym c.in_ok-x.ensures.ok_part ∙ c.x_of.ensures) in
+    let y = locate p.second c.args.j_scaled (sym c.in_ok-y.ensures.ok_part ∙ c.x_of-2.ensures) in
+    let head = c.if-part-ne-SUM.false in
+    let same = both-same p c.args.i_scaled c.args.j_scaled x y c.same.ensures c.if-not-same.false in
+    writes _ _ (collects-both p Γ _ _ head same) (both-few p same)
+    (both_added p same head c.factor-c.ensures c.factor-d.ensures c.append_others-kept.ensures c.append_multiple.ensures)

@@ -3,15 +3,15 @@ use lib.ListN.{get_or}
 use borrow.Author.Tests.{eq-eqb, ne_eqb}
 use Rattle.families.proofs.collecting.x_of.Goals as goal
 
-pub returns-then-scaled-eq0 : goal.returns-then-scaled-eq0
-returns-then-scaled-eq0 c = rw (eq-eqb c.args.scaled 0 c.if-scaled-eq0.true)
+pub returns-then-not-scaled : goal.returns-then-not-scaled
+returns-then-not-scaled c = rw c.if-not-scaled.true
 
 pub returns-then-ws-start-ne-SCALING : goal.returns-then-ws-start-ne-SCALING
 returns-then-ws-start-ne-SCALING c =
     let args = c.args in
-    rw (ne_eqb args.scaled 0 c.if-scaled-eq0.false, ne_eqb (get_or args.ws.now args.start 0) 4864 c.if-ws-start-ne-SCALING.true)
+    rw (c.if-not-scaled.false, ne_eqb (get_or args.ws.now args.start 0) 4864 c.if-ws-start-ne-SCALING.true)
 
 pub returns : goal.returns
 returns c =
     let args = c.args in
-    rw (ne_eqb args.scaled 0 c.if-scaled-eq0.false, eq-eqb (get_or args.ws.now args.start 0) 4864 c.if-ws-start-ne-SCALING.false) c.part_end.ensures
+    rw (c.if-not-scaled.false, eq-eqb (get_or args.ws.now args.start 0) 4864 c.if-ws-start-ne-SCALING.false, c.part_end.ensures)

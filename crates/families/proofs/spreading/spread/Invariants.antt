@@ -5,7 +5,7 @@ use Rattle.families.proofs.Summands.{Passed}
 use Rattle.families.proofs.spreading.spread.Given as goal
 
 abbrev pub invariant-loop-next : goal.invariant-loop-next
-invariant-loop-next l = Passed l.ws l.k l.start l.end l.initial.out l.initial.done l.next l.out l.done
+invariant-loop-next l = Passed l.part.words.now l.k l.start l.end l.initial.out l.initial.done l.next l.out l.done
 
 abbrev pub decreases-loop-next : goal.decreases-loop-next
 decreases-loop-next l = l.end - l.next

@@ -1,24 +1,14 @@
-use mathlib.Core.Path.{sym, ◌∙◌}
+use mathlib.Core.Path.{◌∙◌}
 use native.Mathlib.Omega.{arith}
-use borrow.Author.Count.{below_none, below_more}
-use Rattle.words.proofs.Listed.{all_up_to-all, all_up_to-fails}
+use borrow.Author.Rules.{rules}
+use Rattle.std.proofs.lemmas.Iterator.{YieldsList-from_range}
+use Rattle.std.proofs.lemmas.Iterator.Search.{all_from_yields_List}
+use Rattle.declarations.proofs.UpTo.{in_range}
 use Rattle.lent.specs.Lent.{sided}
 use Rattle.lent.proofs.steps.are_sided.Goals as goal
 
-pub loop-k-init : goal.loop-k-init
-loop-k-init c = (omega arith, below_none _)
-
-pub returns-then-not-is_side : goal.returns-then-not-is_side
-unfolding sided
-returns-then-not-is_side c =
-    let k = c.loop-k.k in
-    sym (all_up_to-fails _ _ k (omega arith) (sym c.is_side.ensures ∙ c.if-not-is_side.true))
-
-pub loop-k-preserved : goal.loop-k-preserved
-unfolding sided
-loop-k-preserved c = (omega arith, below_more _ _ c.loop-k.invariant.1 (sym c.is_side.ensures ∙ c.if-not-is_side.false))
-
 pub returns : goal.returns
+unfolding sided
 returns c =
-    let all = c.loop-k.invariant.1 in
-    sym (all_up_to-all _ _ λ a h. all a (omega arith))
+    all_from_yields_List (sided c.args.steps.now) _ _ _ c.all.ensures.ran (YieldsList-from_range 0 c.args.n c.args.n (cc) (omega arith)) (λ x b q k. search rules)
+    ∙ in_range _ _

@@ -10,8 +10,8 @@ returns-then-steps-n c = sym (too_short _ _ (omega arith) c.if-steps-n.true)
 pub are_sided-requires : goal.are_sided-requires
 are_sided-requires c = (omega arith, omega arith)
 
-pub returns-then-are_sided : goal.returns-then-are_sided
-returns-then-are_sided c = sym (sides-told _ _ (omega arith) (omega arith) (sym c.are_sided.ensures ∙ c.if-are_sided.true))
+pub returns-then-not-are_sided : goal.returns-then-not-are_sided
+returns-then-not-are_sided c = sym (sides-told _ _ (omega arith) (omega arith) (sym c.are_sided.ensures ∙ c.if-not-are_sided.true))
 
 pub returns : goal.returns
-returns c = sym (sides-told _ _ (omega arith) (omega arith) (sym c.are_sided.ensures ∙ c.if-are_sided.false))
+returns c = sym (sides-told _ _ (omega arith) (omega arith) (sym c.are_sided.ensures ∙ c.if-not-are_sided.false))

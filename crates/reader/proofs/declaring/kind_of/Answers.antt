@@ -1,31 +1,30 @@
 -- Letter by letter, as in the definition.
+use native.Mathlib.Omega.{arith}
 use borrow.Author.Tests.{ne_eqb}
-use Rattle.reader.specs.Code.Lines.{kind_number}
 use Rattle.format.specs.Reading.{kind_of_letter}
 use Rattle.reader.proofs.declaring.kind_of.Goals as goal
 
-pub returns-then-letter-eq83 : goal.returns-then-letter-eq83
-unfolding kind_number kind_of_letter
-returns-then-letter-eq83 c = rw c.if-letter-eq83.true
+pub returns-in-83 : goal.returns-in-83
+unfolding kind_of_letter
+returns-in-83 c = rw c.in-83.is
 
-pub returns-then-letter-eq75 : goal.returns-then-letter-eq75
-unfolding kind_number kind_of_letter
-returns-then-letter-eq75 c = rw (ne_eqb _ _ c.if-letter-eq83.false, c.if-letter-eq75.true)
+pub returns-in-75 : goal.returns-in-75
+unfolding kind_of_letter
+returns-in-75 c = rw c.in-75.is
 
-pub returns-then-letter-eq66 : goal.returns-then-letter-eq66
-unfolding kind_number kind_of_letter
-returns-then-letter-eq66 c = rw (ne_eqb _ _ c.if-letter-eq83.false, ne_eqb _ _ c.if-letter-eq75.false, c.if-letter-eq66.true)
+pub returns-in-66 : goal.returns-in-66
+unfolding kind_of_letter
+returns-in-66 c = rw c.in-66.is
 
-pub returns-then-letter-eq79 : goal.returns-then-letter-eq79
-unfolding kind_number kind_of_letter
-returns-then-letter-eq79 c = rw (ne_eqb _ _ c.if-letter-eq83.false, ne_eqb _ _ c.if-letter-eq75.false, ne_eqb _ _ c.if-letter-eq66.false, c.if-letter-eq79.true)
+pub returns-in-79 : goal.returns-in-79
+unfolding kind_of_letter
+returns-in-79 c = rw c.in-79.is
 
-pub returns-then-letter-eq85 : goal.returns-then-letter-eq85
-unfolding kind_number kind_of_letter
-returns-then-letter-eq85 c =
-    rw (ne_eqb _ _ c.if-letter-eq83.false, ne_eqb _ _ c.if-letter-eq75.false, ne_eqb _ _ c.if-letter-eq66.false, ne_eqb _ _ c.if-letter-eq79.false, c.if-letter-eq85.true)
+pub returns-in-85 : goal.returns-in-85
+unfolding kind_of_letter
+returns-in-85 c = rw c.in-85.is
 
-pub returns : goal.returns
-unfolding kind_number kind_of_letter
-returns c =
-    rw (ne_eqb _ _ c.if-letter-eq83.false, ne_eqb _ _ c.if-letter-eq75.false, ne_eqb _ _ c.if-letter-eq66.false, ne_eqb _ _ c.if-letter-eq79.false, ne_eqb _ _ c.if-letter-eq85.false)
+pub returns-in_default : goal.returns-in_default
+unfolding kind_of_letter
+returns-in_default c =
+    rw (ne_eqb c.args.letter 83 (λ z. omega arith), ne_eqb c.args.letter 75 (λ z. omega arith), ne_eqb c.args.letter 66 (λ z. omega arith), ne_eqb c.args.letter 79 (λ z. omega arith), ne_eqb c.args.letter 85 (λ z. omega arith))

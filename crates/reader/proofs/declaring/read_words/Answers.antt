@@ -1,18 +1,21 @@
--- All tokens, or those behind a letter and a space.
+-- The tokens, and whether there is room for them.
+use mathlib.Core.Path.{sym, ◌∙◌, ap}
 use native.Mathlib.Omega.{arith}
-use Rattle.reader.proofs.Behind.{basis_words_lem, behind-none, behind_unspaced, behind-tokens}
+use lib.ListN.{length}
+use Rattle.format.proofs.Padded.{stored-size}
+use Rattle.reader.proofs.Behind.{no_words, words_over, words_few}
 use Rattle.reader.proofs.declaring.read_words.Goals as goal
 
-pub returns-then-kind-eq9 : goal.returns-then-kind-eq9
-returns-then-kind-eq9 c = let read = c.read_tokens.ensures in basis_words_lem _ _ _ c.if-kind-eq9.true read.0 read.1
+pub returns-in_default : goal.returns-in_default
+returns-in_default c = let read = c.read_tokens.ensures in no_words _ _ read.1 (sym read.0 ∙ c.in_default.is) c.refused.ensures
 
-pub returns-then-text-lt2 : goal.returns-then-text-lt2
-returns-then-text-lt2 c = behind-none _ c.if-kind-eq9.false _ _ c.if-text-lt2.true
-
-pub returns-then-text-ne32 : goal.returns-then-text-ne32
-returns-then-text-ne32 c = behind_unspaced _ c.if-kind-eq9.false c.args.text.now _ (omega arith) c.if-text-ne32.true
+pub returns-then-out-n : goal.returns-then-out-n
+returns-then-out-n c =
+    let read = c.read_tokens.ensures in
+    let kept = ap length read.1 ∙ stored-size _ _ _ in
+    words_over _ _ read.1 (sym read.0 ∙ c.in-Some.is) (omega arith) c.refused-then-out-n.ensures
 
 pub returns : goal.returns
 returns c =
-    let read = c.read_tokens-2.ensures in
-    behind-tokens _ c.if-kind-eq9.false c.args.text.now _ (omega arith) c.if-text-ne32.false read.0 read.1
+    let read = c.read_tokens.ensures in
+    let kept = ap length read.1 ∙ stored-size _ _ _ in words_few _ _ read.1 (sym read.0 ∙ c.in-Some.is) (omega arith)

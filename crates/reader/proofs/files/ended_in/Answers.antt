@@ -1,13 +1,13 @@
 -- By the stage.
-use mathlib.Core.Path.{◌∙◌}
-use borrow.Author.Tests.{eq-eqb, ne_eqb}
+use Rattle.reader.specs.declared.keys.Stage.TheVariants.{End}
 use Rattle.reader.specs.Code.Holding.{ended_in}
+use Rattle.reader.proofs.Keyed.{other_stage}
 use Rattle.reader.proofs.files.ended_in.Goals as goal
 
-pub returns-then-s-ne5 : goal.returns-then-s-ne5
+pub returns-in-End : goal.returns-in-End
 unfolding ended_in
-returns-then-s-ne5 c = c.refuse.ensures ∙ rw (ne_eqb _ 5 c.if-s-ne5.true)
+returns-in-End c = rw c.in-End.is
 
-pub returns : goal.returns
+pub returns-in_default : goal.returns-in_default
 unfolding ended_in
-returns c = rw (eq-eqb _ 5 c.if-s-ne5.false)
+returns-in_default c = rw (other_stage c.args.s.stage End c.in_default.not-End, c.refused.ensures)

@@ -4,8 +4,8 @@ use lib.ListN.{length}
 use Rattle.reader.proofs.Walked.{Standing}
 use Rattle.reader.proofs.files.read_lines.Given as goal
 
-abbrev pub invariant-loop-ended : goal.invariant-loop-ended
-invariant-loop-ended l = Standing l.bytes l.at l.line l.ended l.s l.ds l.ls l.rs l.ms
+abbrev pub invariant-loop-reader : goal.invariant-loop-reader
+invariant-loop-reader l = Standing l.bytes l.reader l.line l.s l.ds l.left l.right l.steps
 
-abbrev pub decreases-loop-ended : goal.decreases-loop-ended
-decreases-loop-ended l = length l.bytes - l.at
+abbrev pub decreases-loop-reader : goal.decreases-loop-reader
+decreases-loop-reader l = length l.bytes - l.reader.at

@@ -1,19 +1,24 @@
 -- The first field is one letter.
+use mathlib.Core.Path.{sym}
 use native.Mathlib.Omega.{arith}
-use Rattle.reader.proofs.Fields.{no_side, letter-there, left_side, right_side, other_letter}
+use Rattle.cursor.proofs.Spans.{cut}
+use Rattle.reader.proofs.Fields.{first-size, no_side, left_side, right_side}
 use Rattle.reader.proofs.stepping.read_side.Goals as goal
 
-pub returns-then-span-ne1 : goal.returns-then-span-ne1
-returns-then-span-ne1 c = no_side _ c.piece_at-span.ensures c.if-span-ne1.true
+pub slice_bounds-field-end : goal.slice_bounds-field-end
+slice_bounds-field-end c = sym (first-size _ (cut _ _ c.next-piece.ensures))
 
-pub bounds-text-0 : goal.bounds-text-0
-bounds-text-0 c = letter-there _ c.piece_at-span.ensures (omega arith)
+pub returns-in-L : goal.returns-in-L
+returns-in-L c = left_side _ (cut _ _ c.next-piece.ensures) (omega arith) (omega arith)
 
-pub returns-then-letter-eq76 : goal.returns-then-letter-eq76
-returns-then-letter-eq76 c = left_side _ c.piece_at-span.ensures (omega arith) c.if-letter-eq76.true
+pub returns-in-R : goal.returns-in-R
+returns-in-R c = right_side _ (cut _ _ c.next-piece.ensures) (omega arith) (omega arith)
 
-pub returns-then-letter-eq82 : goal.returns-then-letter-eq82
-returns-then-letter-eq82 c = right_side _ c.piece_at-span.ensures (omega arith) c.if-letter-eq82.true
+pub returns-in_default : goal.returns-in_default
+returns-in_default c = no_side _ (cut _ _ c.next-piece.ensures) λ o. absurd (omega arith)
 
-pub returns : goal.returns
-returns c = other_letter _ c.piece_at-span.ensures (omega arith) c.if-letter-eq76.false c.if-letter-eq82.false
+pub returns-in_default-2 : goal.returns-in_default-2
+returns-in_default-2 c = no_side _ (cut _ _ c.next-piece.ensures) λ o. (λ z. omega arith, λ z. omega arith)
+
+pub returns-in_default-3 : goal.returns-in_default-3
+returns-in_default-3 c = no_side _ (cut _ _ c.next-piece.ensures) λ o. absurd (omega arith)

@@ -9,10 +9,10 @@ returns-in_default c = λ f n. no_end f _ _ (sym c.read_number.ensures ∙ c.in_
 
 pub returns-then-n-k : goal.returns-then-n-k
 returns-then-n-k c =
-    let told = sym c.read_number.ensures ∙ c.in-Value.is in
+    let told = sym c.read_number.ensures ∙ c.in-Some.is in
     λ f n. other_end f _ _ c.requires n told c.if-n-k.true c.refused-then-n-k.ensures
 
 pub returns : goal.returns
 returns c =
-    let told = sym c.read_number.ensures ∙ c.in-Value.is in
-    λ f n. same_end f _ _ c.requires n told (omega arith) c.refused-2.ensures
+    let told = sym c.read_number.ensures ∙ c.in-Some.is in
+    λ f n. same_end f _ _ c.requires n told (omega arith)

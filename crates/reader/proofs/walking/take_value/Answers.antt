@@ -1,27 +1,91 @@
 -- The arms, each with what the function of its key promises.
-use mathlib.Core.Path.{refl}
-use Rattle.words.proofs.Listed.{Others, others_from}
-use Rattle.reader.proofs.Held.{arm, types_valued, basis_valued, variable_valued, left_valued, right_valued, step_valued, last_key, end_valued}
+use native.Mathlib.Omega.{arith}
+use Rattle.format.specs.Files as F
+use Rattle.reader.proofs.Named.{passed_on}
+use Rattle.reader.proofs.Held.{refused_valued, types_put, basis_put, variable_put, left_placed, left_answers, right_placed, right_answers, step_put, end_answers}
+use Rattle.reader.proofs.Held.{declared_valued, left_valued, right_valued, step_valued, end_valued}
 use Rattle.reader.proofs.walking.take_value.Goals as goal
 
-pub returns-in-0 : goal.returns-in-0
-returns-in-0 c = (c.take_types.ensures.0, refl, refl, refl, λ f h. arm c.in-0.is (types_valued _ f _ h c.take_types.ensures.1))
+pub returns-in_err-take_types-in-Types : goal.returns-in_err-take_types-in-Types
+returns-in_err-take_types-in-Types c =
+    let key = c.in-Types.is in
+    let told = c.in_err-take_types-in-Types.ensures in
+    λ f h fit. rw key (refused_valued (types_put _ f _ h told (rw key at fit)).answer (passed_on c.from_residual.ensures))
 
-pub returns-in-1 : goal.returns-in-1
-returns-in-1 c = (c.take_name.ensures.0, refl, refl, refl, λ f h. arm c.in-1.is (basis_valued _ f _ h c.take_name.ensures.1 refl))
+pub returns-in_ok-take_types-in-Types : goal.returns-in_ok-take_types-in-Types
+returns-in_ok-take_types-in-Types c =
+    let key = c.in-Types.is in
+    let told = c.in_ok-take_types-in-Types.ensures in
+    λ f h fit. rw key (declared_valued _ f _ h F.Types (rw key at c.stage_after.ensures) (omega arith) (types_put _ f _ h told (rw key at fit)))
 
-pub returns-in-2 : goal.returns-in-2
-returns-in-2 c = (c.take_name-in-2.ensures.0, refl, refl, refl, λ f h. arm c.in-2.is (variable_valued _ f _ h c.take_name-in-2.ensures.1 refl))
+pub returns-in_err-take_basis-in-Basis : goal.returns-in_err-take_basis-in-Basis
+returns-in_err-take_basis-in-Basis c =
+    let key = c.in-Basis.is in
+    let told = c.in_err-take_basis-in-Basis.ensures in
+    λ f h fit. rw key (refused_valued (basis_put _ f _ h told (rw key at fit)).answer (passed_on c.from_residual-in_err-take_basis-in-Basis.ensures))
 
-pub returns-in-3 : goal.returns-in-3
-returns-in-3 c = (refl, c.take_term.ensures.0, refl, refl, λ f h. arm c.in-3.is (left_valued _ f _ h c.take_term.ensures.1))
+pub returns-in_ok-take_basis-in-Basis : goal.returns-in_ok-take_basis-in-Basis
+returns-in_ok-take_basis-in-Basis c =
+    let key = c.in-Basis.is in
+    let told = c.in_ok-take_basis-in-Basis.ensures in
+    λ f h fit. rw key (declared_valued _ f _ h F.Basis (rw key at c.stage_after.ensures) (omega arith) (basis_put _ f _ h told (rw key at fit)))
 
-pub returns-in-4 : goal.returns-in-4
-returns-in-4 c = (refl, refl, c.take_term-in-4.ensures.0, refl, λ f h. arm c.in-4.is (right_valued _ f _ h c.take_term-in-4.ensures.1))
+pub returns-in_err-take_variable-in-Var : goal.returns-in_err-take_variable-in-Var
+returns-in_err-take_variable-in-Var c =
+    let key = c.in-Var.is in
+    let told = c.in_err-take_variable-in-Var.ensures in
+    λ f h fit. rw key (refused_valued (variable_put _ f _ h told (rw key at fit)).answer (passed_on c.from_residual-in_err-take_variable-in-Var.ensures))
 
-pub returns-in-5 : goal.returns-in-5
-returns-in-5 c = (refl, refl, refl, c.take_step.ensures.0, λ f h. arm c.in-5.is (step_valued _ f _ h c.take_step.ensures.1))
+pub returns-in_ok-take_variable-in-Var : goal.returns-in_ok-take_variable-in-Var
+returns-in_ok-take_variable-in-Var c =
+    let key = c.in-Var.is in
+    let told = c.in_ok-take_variable-in-Var.ensures in
+    λ f h fit. rw key (declared_valued _ f _ h F.Var (rw key at c.stage_after.ensures) (omega arith) (variable_put _ f _ h told (rw key at fit)))
 
-pub returns-in_default : goal.returns-in_default
-unfolding Others
-returns-in_default c = (refl, refl, refl, refl, λ f h fit. arm (last_key _ _ (others_from 6 _ c.in_default.in_default-own.rest) fit) (end_valued _ f _ h c.take_end.ensures) fit)
+pub returns-in_err-next-in-LeftTerm : goal.returns-in_err-next-in-LeftTerm
+returns-in_err-next-in-LeftTerm c =
+    let key = c.in-LeftTerm.is in
+    let told = c.in_err-next-in-LeftTerm.ensures in
+    λ f h fit. rw key (refused_valued (left_answers _ f _ h (left_placed _ f _ h told (rw key at fit))) (passed_on c.from_residual-in_err-next-in-LeftTerm.ensures))
+
+pub returns-in_ok-next-in-LeftTerm : goal.returns-in_ok-next-in-LeftTerm
+returns-in_ok-next-in-LeftTerm c =
+    let key = c.in-LeftTerm.is in
+    let told = c.in_ok-next-in-LeftTerm.ensures in
+    λ f h fit. rw key (left_valued _ f _ h (rw key at c.stage_after.ensures) (rw key at fit) (left_placed _ f _ h told (rw key at fit)))
+
+pub returns-in_err-next-in-RightTerm : goal.returns-in_err-next-in-RightTerm
+returns-in_err-next-in-RightTerm c =
+    let key = c.in-RightTerm.is in
+    let told = c.in_err-next-in-RightTerm.ensures in
+    λ f h fit. rw key (refused_valued (right_answers _ f _ h (right_placed _ f _ h told (rw key at fit))) (passed_on c.from_residual-in_err-next-in-RightTerm.ensures))
+
+pub returns-in_ok-next-in-RightTerm : goal.returns-in_ok-next-in-RightTerm
+returns-in_ok-next-in-RightTerm c =
+    let key = c.in-RightTerm.is in
+    let told = c.in_ok-next-in-RightTerm.ensures in
+    λ f h fit. rw key (right_valued _ f _ h (rw key at c.stage_after.ensures) (rw key at fit) (right_placed _ f _ h told (rw key at fit)))
+
+pub returns-in_err-take_step-in-Step : goal.returns-in_err-take_step-in-Step
+returns-in_err-take_step-in-Step c =
+    let key = c.in-Step.is in
+    let told = c.in_err-take_step-in-Step.ensures in
+    λ f h fit. rw key (refused_valued (step_put _ f _ h told).answer (passed_on c.from_residual-in_err-take_step-in-Step.ensures))
+
+pub returns-in_ok-take_step-in-Step : goal.returns-in_ok-take_step-in-Step
+returns-in_ok-take_step-in-Step c =
+    let key = c.in-Step.is in
+    let told = c.in_ok-take_step-in-Step.ensures in
+    λ f h fit. rw key (step_valued _ f _ h (rw key at c.stage_after.ensures) (rw key at fit) (step_put _ f _ h told))
+
+pub returns-in_err-take_end-in-End : goal.returns-in_err-take_end-in-End
+returns-in_err-take_end-in-End c =
+    let key = c.in-End.is in
+    let told = c.in_err-take_end-in-End.ensures in
+    λ f h fit. rw key (refused_valued (end_answers _ f _ h told) (passed_on c.from_residual-in_err-take_end-in-End.ensures))
+
+pub returns-in_ok-take_end-in-End : goal.returns-in_ok-take_end-in-End
+returns-in_ok-take_end-in-End c =
+    let key = c.in-End.is in
+    let told = c.in_ok-take_end-in-End.ensures in
+    λ f h fit. rw key (end_valued _ f _ h (rw key at c.stage_after.ensures) (rw key at fit) (end_answers _ f _ h told))

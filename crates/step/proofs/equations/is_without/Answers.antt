@@ -1,16 +1,8 @@
-use mathlib.Core.Path.{refl, sym, ◌∙◌}
-use native.Mathlib.Omega.{arith}
-use Rattle.step.proofs.Conditions.{lacks_here, lacks-more, lacks-end}
+-- None of the words is the one.
+use mathlib.Core.Path.{◌∙◌, ap}
+use mathlib.Core.Bool.{not}
+use Rattle.step.proofs.Conditions.{lacks_lem}
 use Rattle.step.proofs.equations.is_without.Goals as goal
 
-pub loop-k-init : goal.loop-k-init
-loop-k-init c = (omega arith, refl)
-
-pub returns-then-ws-k : goal.returns-then-ws-k
-returns-then-ws-k c = let at = c.loop-k in sym (at.invariant.1 ∙ lacks_here _ _ at.k c.loop-k-test.true c.if-ws-k.true)
-
-pub loop-k-preserved : goal.loop-k-preserved
-loop-k-preserved c = let at = c.loop-k in let more = c.loop-k-test.true in (omega arith, at.invariant.1 ∙ lacks-more _ _ at.k more c.if-ws-k.false)
-
 pub returns : goal.returns
-returns c = let at = c.loop-k in sym (at.invariant.1 ∙ lacks-end _ _ at.k c.loop-k-test.false)
+returns c = let args = c.args in ap not c.contains.ensures.value ∙ lacks_lem args.word args.ws.now

@@ -1,25 +1,23 @@
 -- Equations are matched here; a family finds its row by the number.
-use mathlib.Core.Path.{sym, ap}
+use mathlib.Core.Path.{ap}
 use lib.ListN.{length}
 use Rattle.lent.specs.Lent.{asked}
-use Rattle.step.proofs.Dispatched.{equation_of, equation_deepens, equates, at_site}
+use Rattle.step.proofs.Dispatched.{equation_of, equation_deepens, equates, at_site, refused_up}
 use Rattle.step.proofs.rewriting.rewrite_part.Goals as goal
 
-pub equate-written-requires : goal.equate-written-requires
-equate-written-requires c = let pre = c.requires in (pre.0, equation_of _ _ pre.2 c.if-row-eq1.true)
+pub returns-in_default : goal.returns-in_default
+returns-in_default c =
+    (at_site (asked c.args.s) _ c.requires.2 _ _ _ _ _ c.in_default.not-Equation c.rewrite_family.ensures.0, c.rewrite_family.ensures.1)
 
-pub returns-then-written-ne0 : goal.returns-then-written-ne0
-returns-then-written-ne0 c =
-    (equates (asked c.args.s) _ c.requires.2 _ _ _ _ _ c.if-row-eq1.true c.equate-written.ensures, λ z. absurd (c.if-written-ne0.true z))
+pub equate-requires : goal.equate-requires
+equate-requires c = let pre = c.requires in (pre.0, equation_of _ _ pre.2 c.in-Equation.is)
 
-pub returns-then-row-eq1 : goal.returns-then-row-eq1
-returns-then-row-eq1 c =
+pub returns-in_err-end-in-Equation : goal.returns-in_err-end-in-Equation
+returns-in_err-end-in-Equation c =
+    refused_up (asked c.args.s) _ _ _ _ _ c.from_residual.result c.from_residual.ensures.1 (equates (asked c.args.s) _ c.requires.2 _ _ _ _ _ c.in-Equation.is c.in_err-end-in-Equation.ensures)
+
+pub returns-in_ok-end-in-Equation : goal.returns-in_ok-end-in-Equation
+returns-in_ok-end-in-Equation c =
     let found = c.part_at-part.ensures in
-    let may = equation_deepens _ _ c.requires.2 c.if-row-eq1.true in (
-      equates (asked c.args.s) _ c.requires.2 _ _ _ _ _ c.if-row-eq1.true c.equate-written.ensures,
-      λ z. record { size = ap length found.same; deepens = sym may; depth = rw may found.depth },
-    )
-
-pub returns : goal.returns
-returns c =
-    (at_site (asked c.args.s) _ c.requires.2 _ _ _ _ _ c.if-row-eq1.false c.rewrite_family.ensures.0, λ z. c.rewrite_family.ensures.1)
+    let may = equation_deepens _ _ c.requires.2 c.in-Equation.is in
+    (equates (asked c.args.s) _ c.requires.2 _ _ _ _ _ c.in-Equation.is c.in_ok-end-in-Equation.ensures, record { size = ap length found.same; depth = rw (may, found.depth) })

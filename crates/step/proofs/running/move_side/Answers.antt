@@ -1,29 +1,23 @@
--- The step is taken on the side that is named; the other side stays.
-use borrow.Author.Tests.{ne_eqb}
-use Rattle.lent.specs.Lent.{side_in}
-use Rattle.step.proofs.Moving.{asks, moved_left, moved_right}
+-- The step is taken on its side; the other side stays.
+use Rattle.step.proofs.Moving.{asks, left-good, left-bad, right-good, right-bad}
 use Rattle.step.proofs.running.move_side.Goals as goal
 
-pub step_on-taken-requires : goal.step_on-taken-requires
-step_on-taken-requires c =
-    let pre = c.requires in
-    let a = asks pre.0.2.right in
-    (a.0, a.1, pre.1)
+pub step_on-requires : goal.step_on-requires
+step_on-requires c = asks c.requires.2.left
 
-pub returns-then-side-eq2 : goal.returns-then-side-eq2
-unfolding side_in
-returns-then-side-eq2 c =
-    let told = c.step_on-taken.ensures in
-    (told.3, λ p S x. rw c.if-side-eq2.true (moved_right x _ told))
+pub returns-in_err-step_on-in-Left : goal.returns-in_err-step_on-in-Left
+returns-in_err-step_on-in-Left c =
+    λ p S x. rw c.in-Left.is (left-bad x _ _ c.in_err-step_on-in-Left.ensures _ c.from_residual.ensures.1)
 
-pub step_on-taken-requires-2 : goal.step_on-taken-requires-2
-step_on-taken-requires-2 c =
-    let pre = c.requires in
-    let a = asks pre.0.2.left in
-    (a.0, a.1, pre.1)
+pub step_on-requires-in-Right : goal.step_on-requires-in-Right
+step_on-requires-in-Right c = asks c.requires.2.right
 
-pub returns : goal.returns
-unfolding side_in
-returns c =
-    let told = c.step_on-taken-2.ensures in
-    (told.3, λ p S x. rw (ne_eqb _ 2 c.if-side-eq2.false) (moved_left x _ told))
+pub returns-in_err-step_on-in-Right : goal.returns-in_err-step_on-in-Right
+returns-in_err-step_on-in-Right c =
+    λ p S x. rw c.in-Right.is (right-bad x _ _ c.in_err-step_on-in-Right.ensures _ c.from_residual-in_err-step_on-in-Right.ensures.1)
+
+pub returns-in_ok-step_on-in-Left : goal.returns-in_ok-step_on-in-Left
+returns-in_ok-step_on-in-Left c = λ p S x. rw c.in-Left.is (left-good x _ c.in_ok-step_on-in-Left.ensures)
+
+pub returns-in_ok-step_on-in-Right : goal.returns-in_ok-step_on-in-Right
+returns-in_ok-step_on-in-Right c = λ p S x. rw c.in-Right.is (right-good x _ c.in_ok-step_on-in-Right.ensures)

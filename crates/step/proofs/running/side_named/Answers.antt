@@ -7,6 +7,6 @@ pub returns-then-word-eq2 : goal.returns-then-word-eq2
 unfolding side_in
 returns-then-word-eq2 c = rw c.if-word-eq2.true
 
-pub returns : goal.returns
+pub returns-else-word-eq2 : goal.returns-else-word-eq2
 unfolding side_in
-returns c = rw (ne_eqb _ _ c.if-word-eq2.false)
+returns-else-word-eq2 c = rw (ne_eqb _ _ c.if-word-eq2.false)

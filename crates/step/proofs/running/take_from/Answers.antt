@@ -1,44 +1,41 @@
 use mathlib.Core.Path.{refl}
 use native.Mathlib.Omega.{arith}
-use Rattle.step.proofs.Moving.{move-is, all-taken, goes_on, stops}
 use borrow.Author.Rules.{rules}
+use Rattle.step.proofs.Moving.{move-is, all-taken, goes_on, stops}
 use Rattle.step.proofs.running.take_from.Goals as goal
 
 pub loop-k-init : goal.loop-k-init
-loop-k-init c = (omega arith, refl, refl, c.requires.1, λ p S x. (p, x, refl))
+loop-k-init c = record { left_size = refl; right_size = refl; rest = λ p S x. (p, x, refl) }
 
-pub move_side-moved-requires : goal.move_side-moved-requires
-move_side-moved-requires c =
-    let start = c.requires in
-    let loop = c.loop-k.invariant in
-    let now = loop.4 start.0.0 start.0.1 start.0.2 in
-    ((now.0, start.0.1, now.1), loop.3)
+pub move_side-requires : goal.move_side-requires
+move_side-requires c =
+    let start = c.requires.0 in
+    let now = c.loop-k.invariant.rest start.0 start.1 start.2 in
+    (now.0, start.1, now.1)
 
-pub returns-then-moved-ne0 : goal.returns-then-moved-ne0
-returns-then-moved-ne0 c =
+pub returns-in-Err : goal.returns-in-Err
+returns-in-Err c =
     λ p S x.
-    let now = c.loop-k.invariant.4 p S x in
-    let moved = c.move_side-moved.ensures.1 now.0 S now.1 in
-    let named = move-is _ _ _ _ refl c.step_there-s.ensures in
-    stops now.0 _ _ _ _ named moved.0 moved.1 (omega arith) now.2 _ _ c.side_named.ensures refl c.if-moved-ne0.true
+    let now = c.loop-k.invariant.rest p S x in
+    let moved = c.move_side.ensures now.0 S now.1 in
+    let named = move-is _ _ _ _ c.side_named-side.ensures c.step_there-s.ensures in
+    stops now.0 _ _ _ now.2 c.loop-k-test.true _ named moved.1 _ (rw c.in-Err.is at moved.0) now.1 c.code.ensures c.side_number.ensures
 
 pub loop-k-preserved : goal.loop-k-preserved
 loop-k-preserved c =
-    let loop = c.loop-k.invariant in
-    let told = c.move_side-moved.ensures in
-    let named = move-is _ _ _ _ refl c.step_there-s.ensures in (
-      omega arith,
-      search rules,
-      search rules,
-      told.0,
-      λ p S x.
-          let now = loop.4 p S x in
-          let moved = told.1 now.0 S now.1 in
-          (_, moved.1, goes_on now.0 _ _ _ _ named moved.0 moved.1 (omega arith) now.2 c.if-moved-ne0.false),
-    )
+    let told = c.move_side.ensures in
+    let named = move-is _ _ _ _ c.side_named-side.ensures c.step_there-s.ensures in record {
+      left_size = search rules;
+      right_size = search rules;
+      rest = λ p S x.
+          let now = c.loop-k.invariant.rest p S x in
+          let moved = told now.0 S now.1 in
+          let on = goes_on now.0 _ _ _ now.2 c.loop-k-test.true _ named moved.1 (rw c.in-Ok.is at moved.0) in
+          (_, on.0, on.1);
+    }
 
 pub returns : goal.returns
 returns c =
     λ p S x.
-    let now = c.loop-k.invariant.4 p S x in
-    all-taken now.0 _ _ _ now.1 now.2 (omega arith)
+    let now = c.loop-k.invariant.rest p S x in
+    all-taken now.0 _ _ _ now.2 now.1 (omega arith)

@@ -14,13 +14,13 @@ use Rattle.step.specs.Code.Making.{Fresh}
 use Rattle.step.proofs.Limits.{end-inside, result-depth, place-level, seated, made_long, made_behind, made_deep, made_good}
 use Rattle.step.proofs.stepping.finish.Goals as goal
 
-pub returns-then-new-gt4096 : goal.returns-then-new-gt4096
-returns-then-new-gt4096 c = λ f. made_long f _ c.if-new-gt4096.true f.size
+pub returns-then-new-gt-TERM_SIZE : goal.returns-then-new-gt-TERM_SIZE
+returns-then-new-gt-TERM_SIZE c = λ f. made_long f _ c.if-new-gt-TERM_SIZE.true f.size
 
 pub is_too_deep-requires : goal.is_too_deep-requires
 is_too_deep-requires c =
     let f = c.requires in
-    (seated f (omega (arith, f.new_end, c.if-new-gt4096.false)), omega (arith, end-inside f, f.short), omega (arith, length-take c.args.made.written.end c.args.out.now, f.size))
+    (seated f (omega (arith, f.new_end, c.if-new-gt-TERM_SIZE.false)), omega (arith, end-inside f, f.short), omega (arith, length-take c.args.made.end c.args.out.now, f.size))
 
 pub returns-then-is_too_deep : goal.returns-then-is_too_deep
 returns-then-is_too_deep c =
@@ -48,7 +48,7 @@ overflow_sub-place c = let f = c.requires in omega (arith, end-inside f, f.short
 
 pub returns-then-place-done : goal.returns-then-place-done
 returns-then-place-done c =
-    let behind : let args = c.args in Added args.out.now args.made.written.end (drop (args.place + args.made.size) args.term.now) c.append-done.new.out c.append-done.result = let args = c.args in
+    let behind : let args = c.args in Added args.out.now args.made.end (drop (args.place + args.made.size) args.term.now) c.append-done.new.out c.append-done.result = let args = c.args in
     added_as (to_end args.term.now (args.place + args.made.size)) (added _ _ _ _ _ c.append-done.ensures.0 c.append-done.ensures.1) in
     λ f.
     let a = behind in
@@ -62,7 +62,7 @@ returns c =
     let n = level f.tree c.args.place + depth f.result in
     let told : c.is_too_deep.result ≡ ltb 64 n = c.is_too_deep.ensures ∙ rw (place-level f, result-depth f short) in
     (short, λ e. omega (arith, ltb-true 64 n (sym told ∙ e)), λ e. omega (arith, ltb-false 64 n (sym told ∙ e))) in
-    let behind : let args = c.args in Added args.out.now args.made.written.end (drop (args.place + args.made.size) args.term.now) c.append-done.new.out c.append-done.result = let args = c.args in
+    let behind : let args = c.args in Added args.out.now args.made.end (drop (args.place + args.made.size) args.term.now) c.append-done.new.out c.append-done.result = let args = c.args in
     added_as (to_end args.term.now (args.place + args.made.size)) (added _ _ _ _ _ c.append-done.ensures.0 c.append-done.ensures.1) in
     λ f.
     let a = behind in

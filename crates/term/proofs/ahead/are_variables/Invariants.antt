@@ -1,12 +1,8 @@
--- The invariant: where all so far were variables, the first k words are leaves.
+-- The invariant: where all so far were variables, the first words are leaves.
 use mathlib.Core.Path.{◌≡◌}
 use mathlib.Core.Bool.{true}
-use Prim.Native.Nat.{◌-◌, ◌≤◌}
 use Rattle.term.specs.Code.Rows.{Leaves}
 use Rattle.term.proofs.ahead.are_variables.Given as goal
 
-abbrev pub invariant-loop-k : goal.invariant-loop-k
-invariant-loop-k l = (l.k ≤ l.n) × (l.all ≡ true → Leaves l.ws l.at l.k)
-
-abbrev pub decreases-loop-k : goal.decreases-loop-k
-decreases-loop-k l = l.n - l.k
+abbrev pub invariant-loop-word : goal.invariant-loop-word
+invariant-loop-word l = l.all ≡ true → Leaves l.row 0 l.word-index

@@ -1,9 +1,10 @@
--- The invariant: `level` and `parts` are what the words from `i` up to the place give. The measure is `i`.
+-- The invariant: `level` and `parts` are what the words that were seen give.
+use Rattle.std.proofs.Common.{map}
 use Rattle.term.proofs.Levels.{Back}
 use Rattle.term.proofs.parts.level_at.Given as goal
 
-abbrev pub invariant-loop-i : goal.invariant-loop-i
-invariant-loop-i l = Back l.ws l.at l.i l.level l.parts
-
-abbrev pub decreases-loop-i : goal.decreases-loop-i
-decreases-loop-i l = l.i
+abbrev pub invariant-loop-word : goal.invariant-loop-word
+invariant-loop-word l =
+    (goal.iterator-loop-word).can_next l.word-iterator ×
+    (goal.iterator-loop-word).is_finite l.word-iterator ×
+    Back (map (λ w. w.now) l.yielded) l.level l.parts

@@ -25,27 +25,24 @@ returns-in_default c =
     let loop = c.loop-need in
     sym (loop.invariant.1 ∙ end-unknown _ _ loop.i loop.need (omega arith) (omega arith) (sym c.arity_of.ensures ∙ c.in_default.is))
 
-pub loop-need-preserved-then-n-lt-LONG_ROW : goal.loop-need-preserved-then-n-lt-LONG_ROW
-loop-need-preserved-then-n-lt-LONG_ROW c =
+pub loop-need-preserved-then-is_row : goal.loop-need-preserved-then-is_row
+loop-need-preserved-then-is_row c =
     let loop = c.loop-need in
-    (omega arith, loop.invariant.1 ∙ end_more _ _ loop.i loop.need _ (omega arith) (omega arith) (sym c.arity_of.ensures ∙ c.in-Children.is))
+    let args = c.args in
+    let n = c.in-Some.n in
+    let row = c.is_row.ensures c.if-is_row.true in
+    let one = end_more args.ws.now args.at loop.i loop.need n (omega arith) (omega arith) (sym c.arity_of.ensures ∙ c.in-Some.is) in
+    let more = end_leaves args.ws.now args.at (loop.i + 1) (loop.need - 1 + n) n row.0 (omega arith) row.1 in
+    let still : loop.need - 1 + n - n ≡ loop.need - 1 = omega arith in
+    (row.0, loop.invariant.1 ∙ one ∙ (rw still at more))
 
-pub overflow_add-need-else-n-lt-LONG_ROW : goal.overflow_add-need-else-n-lt-LONG_ROW
-overflow_add-need-else-n-lt-LONG_ROW c = omega (arith, children_few _ _ (sym c.arity_of.ensures ∙ c.in-Children.is))
+pub overflow_add-need : goal.overflow_add-need
+overflow_add-need c = omega (arith, children_few _ _ (sym c.arity_of.ensures ∙ c.in-Some.is))
 
 pub loop-need-preserved : goal.loop-need-preserved
 loop-need-preserved c =
     let loop = c.loop-need in
-    let args = c.args in
-    let ahead = c.leaves_ahead-ahead.ensures in
-    let r = c.leaves_ahead-ahead.result in
-    let n = c.in-Children.n in
-    let wanted = sym c.arity_of.ensures ∙ c.in-Children.is in
-    let one = end_more args.ws.now args.at loop.i loop.need n (omega arith) (omega arith) wanted in
-    let more = end_leaves args.ws.now args.at (loop.i + 1) (loop.need - 1 + n) r ahead.1 (omega (arith, ahead.0)) ahead.2 in
-    let at : loop.i + 1 + r ≡ loop.i + (1 + r) = omega arith in
-    let still : loop.need - 1 + n - r ≡ loop.need - 1 + (n - r) = omega (arith, ahead.0) in
-    (omega (arith, ahead.1), loop.invariant.1 ∙ one ∙ (rw (at, still) at more))
+    (omega arith, loop.invariant.1 ∙ end_more _ _ loop.i loop.need _ (omega arith) (omega arith) (sym c.arity_of.ensures ∙ c.in-Some.is))
 
 pub returns : goal.returns
 returns c =

@@ -1,5 +1,10 @@
--- One of the two tests of all words.
+-- The chain's test of every word.
+use Rattle.std.proofs.Common.{◌∙◌, rules, tests}
+use Rattle.std.proofs.lemmas.Iterator.{YieldsList-from_slice}
+use Rattle.std.proofs.lemmas.Iterator.Search.{all_from_yields_List}
+use Rattle.term.specs.Terms.{declared}
+use Rattle.term.proofs.Passed.{all_is}
 use Rattle.term.proofs.terms.all_declared.Goals as goal
 
 pub returns : goal.returns
-returns c = c.all_pass.ensures
+returns c = all_from_yields_List (declared c.args.names) _ _ _ c.all.ensures.ran (YieldsList-from_slice c.args.ws.now (cc)) (λ x b q k. search (rules, tests)) ∙ all_is _ _

@@ -1,12 +1,13 @@
 -- By how many bytes there are.
+use native.Mathlib.Omega.{arith}
 use Rattle.text.proofs.Scanned.{begun_none, begun_one, begun_more}
 use Rattle.text.proofs.numbers.is_well_begun.Goals as goal
 
-pub returns-then-text-eq0 : goal.returns-then-text-eq0
-returns-then-text-eq0 c = begun_none _ c.if-text-eq0.true
+pub returns-in-empty : goal.returns-in-empty
+returns-in-empty c = begun_none _ (omega arith)
 
-pub returns-then-text-eq1 : goal.returns-then-text-eq1
-returns-then-text-eq1 c = begun_one _ c.if-text-eq1.true
+pub returns-in-len1 : goal.returns-in-len1
+returns-in-len1 c = begun_one _ (omega arith)
 
-pub returns : goal.returns
-returns c = begun_more _ c.if-text-eq0.false c.if-text-eq1.false
+pub returns-in-len1-up : goal.returns-in-len1-up
+returns-in-len1-up c = begun_more _ c.in-len1-up.len_at_least

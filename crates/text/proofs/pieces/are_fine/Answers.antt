@@ -3,15 +3,15 @@ use native.Mathlib.Omega.{arith}
 use Rattle.text.proofs.Scanned.{fine_more, fine_end}
 use Rattle.text.proofs.pieces.are_fine.Goals as goal
 
-pub loop-i-init : goal.loop-i-init
-loop-i-init c = (omega arith, refl)
+pub loop-byte-init : goal.loop-byte-init
+loop-byte-init c = refl
 
-pub loop-i-preserved : goal.loop-i-preserved
-loop-i-preserved c =
-    let loop = c.loop-i in
-    (omega arith, loop.invariant.1 ∙ fine_more loop.fine _ loop.i (omega arith) ∙ rw c.still_fine-fine.ensures)
+pub loop-byte-preserved : goal.loop-byte-preserved
+loop-byte-preserved c =
+    let loop = c.loop-byte in
+    loop.invariant ∙ fine_more loop.fine _ loop.byte-index (omega arith) ∙ rw c.is_fine-fine.ensures
 
 pub returns : goal.returns
 returns c =
-    let loop = c.loop-i in
-    sym (loop.invariant.1 ∙ fine_end loop.fine _ loop.i (omega arith))
+    let loop = c.loop-byte in
+    sym (loop.invariant ∙ fine_end loop.fine _ loop.byte-index (omega arith))

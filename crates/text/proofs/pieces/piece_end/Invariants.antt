@@ -1,12 +1,9 @@
 -- The invariant: from `i` on the piece has the same end.
 use mathlib.Core.Path.{◌≡◌}
-use Prim.Native.Nat.{◌-◌}
+use Prim.Native.Nat.{◌≤◌, max}
 use lib.ListN.{length}
 use Rattle.text.specs.Pieces.{piece_end}
 use Rattle.text.proofs.pieces.piece_end.Given as goal
 
 abbrev pub invariant-loop-i : goal.invariant-loop-i
-invariant-loop-i l = piece_end l.text l.at l.b ≡ piece_end l.text l.i l.b
-
-abbrev pub decreases-loop-i : goal.decreases-loop-i
-decreases-loop-i l = length l.text - l.i
+invariant-loop-i l = (l.i ≤ max l.at (length l.text)) × (piece_end l.text l.at l.b ≡ piece_end l.text l.i l.b)

@@ -1,14 +1,12 @@
 -- A number, and its limit.
 use mathlib.Core.Path.{sym, ◌∙◌}
-use native.Mathlib.Omega.{arith}
-use Rattle.text.specs.Tokens.{told_part}
-use Rattle.text.proofs.Told.{none-limited, in_limit}
+use Rattle.text.specs.Numbers.{told}
+use Rattle.text.proofs.Told.{none-limited, part_is}
 use Rattle.text.proofs.tokens.read_part.Goals as goal
 
-pub returns-in_default : goal.returns-in_default
-unfolding told_part
-returns-in_default c = rw (none-limited 255 _ (sym c.read_number.ensures ∙ c.in_default.is))
+pub returns-in_err-n : goal.returns-in_err-n
+unfolding told
+returns-in_err-n c = c.from_residual.ensures ∙ rw (none-limited 255 _ (sym c.read_number.ensures ∙ c.in_err-n.was))
 
 pub returns : goal.returns
-unfolding told_part
-returns c = rw (in_limit 255 _ (sym c.read_number.ensures ∙ c.in-Value.is) (omega arith) (omega arith))
+returns c = c.ok.ensures.value ∙ part_is _ _ (sym c.read_number.ensures ∙ c.in_ok-n.was) c.try_from.ensures

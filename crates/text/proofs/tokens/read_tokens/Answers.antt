@@ -1,54 +1,55 @@
-use mathlib.Core.Path.{refl, sym, ◌∙◌}
+use mathlib.Core.Path.{◌≡◌, refl, sym, ◌∙◌}
+use mathlib.Core.Bool.{false}
+use mathlib.Core.List.{◌∷◌}
+use Prim.Native.Nat.{◌+◌, ◌≤◌}
 use native.Mathlib.Omega.{arith}
-use lib.ListN.{length-set}
+use borrow.Author.Rules.{rules}
+use lib.Dec.{eqb}
+use Rattle.std.proofs.lemmas.Fn.{always_returns_same}
+use lib.ListN.{length}
 use lib.Seq.{set_out}
 use Rattle.text.specs.Tokens.{tokens_in}
-use Rattle.text.proofs.Told.{no_token, a_token}
-use Rattle.text.proofs.Tokened.{piece-within, fields_all, fields_more, fields_end, counted-all, counted-more, counted_none, counted-end, stored_more, stored-none, stored-end}
+use Rattle.text.specs.Pieces.{space}
+use Rattle.text.proofs.Told.{told-none, told_same}
+use Rattle.text.proofs.Tokened.{left, piece_split, left_shorter, counted-all, counted-more, counted_none, counted-end, stored_more, stored-none, stored-end}
 use Rattle.text.proofs.tokens.read_tokens.Goals as goal
 use Rattle.text.proofs.tokens.read_tokens.Goals.{then-n-out, else-n-out}
 
-pub loop-at-init : goal.loop-at-init
+pub loop-piece-init : goal.loop-piece-init
 unfolding tokens_in
-loop-at-init c = (omega arith, omega arith, refl, rw (fields_all _) (counted-all _), rw (fields_all _))
+loop-piece-init c =
+    let rest = c.split-piece-items.ensures.rest in
+    rw (c.into_iter-piece-iterator.ensures.into_iter_gives, rest, c.split-piece-items.ensures.done) (λ d. omega arith, counted-all _, refl)
 
-pub slice_bounds-read_token-count : goal.slice_bounds-read_token-count
-slice_bounds-read_token-count c = let e = c.piece_end-end.ensures in let h = piece-within _ c.loop-at.at e (omega arith) in omega arith
+pub returns-in_err-word : goal.returns-in_err-word
+returns-in_err-word c =
+    let s = c.in-Some.ensures.steps in
+    let inv = c.loop-piece.invariant in
+    let f : left c.loop-piece.piece-iterator.done c.loop-piece.piece-iterator.rest.now ≡ c.in-Some.piece.now ∷ left c.next.new.self.done c.next.new.self.rest.now
+    = rw s.0 (piece_split _ _ _ _ s.1 (s.2 (λ x. eqb x space) (always_returns_same _ _ _ (λ a r f' k. search rules))).1) in
+    let none = told-none _ _ (sym c.read_token.ensures ∙ c.in_err-word.was) in
+    (c.from_residual.ensures ∙ sym (inv.1 ∙ rw f (counted_none _ _ _ none)), sym (inv.2 ∙ rw f (stored-none _ _ _ _ none)))
 
-pub slice_bounds-read_token-start : goal.slice_bounds-read_token-start
-slice_bounds-read_token-start c = let e = c.piece_end-end.ensures in let h = piece-within _ c.loop-at.at e (omega arith) in omega arith
+pub overflow_add-n : goal.overflow_add-n
+overflow_add-n c = let s = c.in-Some.ensures.steps in let n = c.loop-piece.invariant.0 s.0 in search rules
 
-pub slice_bounds-read_token-end : goal.slice_bounds-read_token-end
-slice_bounds-read_token-end c = let e = c.piece_end-end.ensures in let h = piece-within _ c.loop-at.at e (omega arith) in omega arith
-
-pub returns-in_default : goal.returns-in_default
-returns-in_default c =
-    let inv = c.loop-at.invariant in
-    let f = fields_more _ c.loop-at.at c.piece_end-end.ensures (omega arith) in
-    let none = no_token _ (sym c.read_token.ensures ∙ c.in_default.is) in
-    (sym (inv.3 ∙ rw f (counted_none _ _ _ none)), sym (inv.4 ∙ rw f (stored-none _ _ _ _ none)))
-
-pub overflow_add-at : goal.overflow_add-at
-overflow_add-at c = let h = piece-within _ c.loop-at.at c.piece_end-end.ensures (omega arith) in omega arith
-
-pub loop-at-smaller : goal.loop-at-smaller
-loop-at-smaller c = let h = piece-within _ c.loop-at.at c.piece_end-end.ensures (omega arith) in omega arith
-
-pub loop-at-preserved : goal.loop-at-preserved
-loop-at-preserved c =
-    let inv = c.loop-at.invariant in
-    let f = fields_more _ c.loop-at.at c.piece_end-end.ensures (omega arith) in
-    let h = piece-within _ c.loop-at.at c.piece_end-end.ensures (omega arith) in
-    let word = a_token _ _ (sym c.read_token.ensures ∙ c.in-Word.is) in
-    let told = (rw f at inv.3) ∙ counted-more _ _ _ word in
-    let left = (rw f at inv.4) ∙ stored_more _ _ _ _ word in
+pub loop-piece-preserved : goal.loop-piece-preserved
+loop-piece-preserved c =
+    let s = c.in-Some.ensures.steps in
+    let inv = c.loop-piece.invariant in
+    let f : left c.loop-piece.piece-iterator.done c.loop-piece.piece-iterator.rest.now ≡ c.in-Some.piece.now ∷ left c.next.new.self.done c.next.new.self.rest.now
+    = rw s.0 (piece_split _ _ _ _ s.1 (s.2 (λ x. eqb x space) (always_returns_same _ _ _ (λ a r f' k. search rules))).1) in
+    let word = told_same _ (sym c.read_token.ensures ∙ c.in_ok-word.was) in
+    let few : c.next.new.self.done ≡ false → c.loop-piece.n + 1 + length c.next.new.self.rest.now ≤ length c.args.text.now = λ d. let n = inv.0 s.0 in let l = left_shorter _ _ _ _ s.1 d in omega arith in
+    let told = (rw f at inv.1) ∙ counted-more _ _ _ word in
+    let rest = (rw f at inv.2) ∙ stored_more _ _ _ _ word in
     elim c.if-n-out.branch [
-      | then-n-out w ↦ (omega arith, omega arith, rw w.out-is (simp length-set inv.2), told, left ∙ rw w.out-is)
-      | else-n-out w ↦ (omega arith, omega arith, rw w.out-is inv.2, told, left ∙ rw (w.out-is, set_out _ _ _ w.if-n-out.false))
+      | then-n-out w ↦ (few, told, rest ∙ rw w.out-is)
+      | else-n-out w ↦ (few, told, rest ∙ rw (w.out-is, set_out _ _ _ w.if-n-out.false))
     ]
 
 pub returns : goal.returns
 returns c =
-    let inv = c.loop-at.invariant in
-    let f = fields_end c.args.text.now c.loop-at.at c.loop-at-test.false in
-    (sym (inv.3 ∙ rw f (counted-end _)), sym (inv.4 ∙ rw f (stored-end _ _)))
+    let inv = c.loop-piece.invariant in
+    let s = c.in-None.ensures.steps in
+    (sym (inv.1 ∙ rw s.0 (counted-end _)), sym (inv.2 ∙ rw s.0 (stored-end _ _)))

@@ -1,10 +1,9 @@
 -- The record is found by its links; the words before it go to the top.
-use mathlib.Core.Path.{◌≡◌, sym, ◌∙◌}
-use mathlib.Core.Bool.{true}
+use mathlib.Core.Path.{sym, ◌∙◌}
 use native.Mathlib.Omega.{arith}
+use borrow.Author.Rules.{rules}
 use Prim.Native.Nat.{◌+◌, ◌≤◌}
-use Rattle.typing.specs.Code.Chains.{around_of, in_reach}
-use Rattle.typing.proofs.Binding.{chain-low, bound-past, bound-room, bound_answers}
+use Rattle.typing.proofs.Binding.{chain-low, bound-past, bound-room, bound-none, bound_some, within-laid}
 use Rattle.typing.proofs.bodies.put_bound.Goals as goal
 
 pub returns-then-not-is_in_reach : goal.returns-then-not-is_in_reach
@@ -15,21 +14,23 @@ record_at-at-requires c = let h = c.requires in let l = chain-low h.2.1.chain in
 
 pub overflow_sub-at : goal.overflow_sub-at
 overflow_sub-at c =
-    let near : let a = c.args in in_reach (around_of a.within).bodies a.a ≡ true = rw c.bodies_of.ensures at (sym c.is_in_reach.ensures ∙ c.if-not-is_in_reach.false) in
-    let room : (c.record_at-at.result + 2 ≤ c.args.top) × (c.word_at-n.result ≤ c.record_at-at.result) × (c.word_at-n.result ≤ 63) = bound-room c.requires.2.1 _ near (rw c.inner_of.ensures at c.record_at-at.ensures)
-    c.word_at-n.ensures in
-    room.1
+    (bound-room c.requires.2.1 _ c.bodies_of.ensures c.is_in_reach.ensures c.if-not-is_in_reach.false c.inner_of.ensures c.record_at-at.ensures (c.from-n.ensures ∙ c.word_at.ensures)).1
 
-pub copy_up-requires : goal.copy_up-requires
-copy_up-requires c =
-    let near : let a = c.args in in_reach (around_of a.within).bodies a.a ≡ true = rw c.bodies_of.ensures at (sym c.is_in_reach.ensures ∙ c.if-not-is_in_reach.false) in
-    let room : (c.record_at-at.result + 2 ≤ c.args.top) × (c.word_at-n.result ≤ c.record_at-at.result) × (c.word_at-n.result ≤ 63) = bound-room c.requires.2.1 _ near (rw c.inner_of.ensures at c.record_at-at.ensures)
-    c.word_at-n.ensures in
-    let h = c.requires in let r = room in (omega arith, omega arith)
+pub returns-then-n-eq0 : goal.returns-then-n-eq0
+returns-then-n-eq0 c types x =
+    bound-none x _ c.bodies_of.ensures c.is_in_reach.ensures c.if-not-is_in_reach.false c.inner_of.ensures c.record_at-at.ensures (c.from-n.ensures ∙ c.word_at.ensures) c.if-n-eq0.true c.requires.0
+
+pub copy_within-requires : goal.copy_within-requires
+copy_within-requires c =
+    let r : (c.record_at-at.result + 2 ≤ c.args.top) × (c.from-n.result ≤ c.record_at-at.result) × (c.from-n.result ≤ 63) =
+    bound-room c.requires.2.1 _ c.bodies_of.ensures c.is_in_reach.ensures c.if-not-is_in_reach.false c.inner_of.ensures c.record_at-at.ensures (c.from-n.ensures ∙ c.word_at.ensures) in
+    let h = c.requires in
+    record { start_le_end = omega arith; in_bounds = omega arith; dest_in_bounds = omega arith; not_exhausted = search rules }
 
 pub returns : goal.returns
-returns c =
-    let near : let a = c.args in in_reach (around_of a.within).bodies a.a ≡ true = rw c.bodies_of.ensures at (sym c.is_in_reach.ensures ∙ c.if-not-is_in_reach.false) in
-    let less = near in
-    let place = rw c.inner_of.ensures at c.record_at-at.ensures in
-    λ types x. bound_answers x _ less place c.word_at-n.ensures c.requires.0 c.copy_up.ensures
+returns c types x =
+    let r : (c.record_at-at.result + 2 ≤ c.args.top) × (c.from-n.result ≤ c.record_at-at.result) × (c.from-n.result ≤ 63) =
+    bound-room c.requires.2.1 _ c.bodies_of.ensures c.is_in_reach.ensures c.if-not-is_in_reach.false c.inner_of.ensures c.record_at-at.ensures (c.from-n.ensures ∙ c.word_at.ensures) in
+    let h = c.requires in
+    bound_some x _ c.bodies_of.ensures c.is_in_reach.ensures c.if-not-is_in_reach.false c.inner_of.ensures c.record_at-at.ensures (c.from-n.ensures ∙ c.word_at.ensures) c.if-n-eq0.false c.requires.0
+    (c.copy_within.ensures.after ∙ within-laid c.args.stack.now c.record_at-at.result c.from-n.result c.args.top (omega arith) (omega arith) (omega arith))

@@ -4,8 +4,5 @@ use Prim.Native.Nat.{◌-◌, ◌≤◌}
 use Rattle.typing.specs.Code.Chains.{link_at}
 use Rattle.typing.proofs.bodies.record_at.Given as goal
 
-abbrev pub invariant-loop-i : goal.invariant-loop-i
-invariant-loop-i l = (l.i ≤ l.a) × (l.at ≤ 65535) × (link_at l.stack l.inner l.a ≡ link_at l.stack l.at (l.a - l.i))
-
-abbrev pub decreases-loop-i : goal.decreases-loop-i
-decreases-loop-i l = l.a - l.i
+abbrev pub invariant-loop : goal.invariant-loop
+invariant-loop l = (l.at ≤ 65535) × (link_at l.stack l.inner l.a ≡ link_at l.stack l.at (l.a - l.counter))

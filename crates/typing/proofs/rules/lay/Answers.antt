@@ -6,10 +6,10 @@ use lib.Seq.{length-take-le}
 use Rattle.typing.proofs.Concluding.{placed, in_place, inserted, made_room, sides_made}
 use Rattle.typing.proofs.rules.lay.Goals as goal
 
-pub returns-then-g-top : goal.returns-then-g-top
-returns-then-g-top c = c.insert.ensures ∙ inserted c.requires c.if-p.true (sym c.stands.ensures ∙ c.if-stands.true)
+pub returns-then-g-left : goal.returns-then-g-left
+returns-then-g-left c = c.insert.ensures ∙ inserted c.requires c.if-p.true (sym c.stands.ensures ∙ c.if-stands.true)
     c.if-left-ne0.true c.if-right-eq0.true
-    c.if-g-top.true
+    c.if-g-left.true
 
 pub returns-then-stands-2 : goal.returns-then-stands-2
 returns-then-stands-2 c = in_place c.requires c.if-p.false (sym c.stands.ensures ∙ c.if-stands.true)

@@ -1,6 +1,5 @@
--- The measure of the recursion is the budget. The loop's invariant: where a whole part begins here, the children passed so far have no stray part (`Passing`); its measure is how many are
--- still to come.
-use Rattle.std.proofs.Common.{◌≤◌, ◌-◌, length}
+-- The measure of the recursion is the budget. The loop's invariant: where a whole part begins here, the children passed so far have no stray part (`Passing`).
+use Rattle.std.proofs.Common.{◌≤◌, length}
 use Rattle.typing.proofs.Straying.{Passing}
 use Rattle.typing.proofs.strays.+stray_in.Given as goal
 
@@ -8,7 +7,4 @@ abbrev pub decreases-stray_in : goal.decreases-stray_in
 decreases-stray_in l = l.budget
 
 abbrev pub invariant-loop-k : goal.invariant-loop-k
-invariant-loop-k l = (l.k ≤ l.n) × (l.next ≤ length l.ws) × Passing l.ws l.at l.bodies l.budget l.next l.k
-
-abbrev pub decreases-loop-k : goal.decreases-loop-k
-decreases-loop-k l = l.n - l.k
+invariant-loop-k l = (l.next ≤ length l.ws) × Passing l.ws l.at l.bodies l.budget l.next l.k

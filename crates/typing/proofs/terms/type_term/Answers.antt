@@ -14,8 +14,7 @@ pub returns-then-not-are_good : goal.returns-then-not-are_good
 returns-then-not-are_good c = c.refused_with-then-not-are_good.ensures ∙ sym (bad_declarations _ _ _ c.if-ws-ne4096.false (sym c.are_good.ensures ∙ c.if-not-are_good.true))
 
 pub returns-then-n-gt4096 : goal.returns-then-n-gt4096
-returns-then-n-gt4096 c =
-    c.refused_with-then-n-gt4096.ensures ∙ sym (no_term _ _ _ c.if-ws-ne4096.false (sym c.are_good.ensures ∙ c.if-not-are_good.false) (term-past _ _ _ (omega arith)))
+returns-then-n-gt4096 c = c.refused_with-then-n-gt4096.ensures ∙ sym (no_term _ _ _ c.if-ws-ne4096.false (sym c.are_good.ensures ∙ c.if-not-are_good.false) (term-past _ _ _ (omega arith)))
 
 pub slice_bounds-typed_in-end : goal.slice_bounds-typed_in-end
 slice_bounds-typed_in-end c = sym (length-take-le _ _ (omega arith))
@@ -26,5 +25,4 @@ typed_in-requires c =
     rw (length-take-le args.n args.ws.now (omega arith)) (sym c.are_good.ensures ∙ c.if-not-are_good.false, omega arith)
 
 pub returns : goal.returns
-returns c =
-    c.typed_in.ensures ∙ within _ _ _ c.if-ws-ne4096.false (sym c.are_good.ensures ∙ c.if-not-are_good.false) (omega arith)
+returns c = c.typed_in.ensures ∙ within _ _ _ c.if-ws-ne4096.false (sym c.are_good.ensures ∙ c.if-not-are_good.false) (omega arith)

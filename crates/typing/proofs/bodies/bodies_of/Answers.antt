@@ -1,7 +1,0 @@
-use mathlib.Core.Path.{refl}
-use Rattle.typing.specs.Code.Chains.{around_of}
-use Rattle.typing.proofs.bodies.bodies_of.Goals as goal
-
-pub returns : goal.returns
-unfolding around_of
-returns c = refl
