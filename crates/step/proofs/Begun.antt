@@ -88,7 +88,7 @@ module _ (d : Derivation) where
         let z : length d.right - 0 ≡ length d.right = omega arith in
         (rw (e, ← is, ne_eqb _ _ k), rw (← is, ne_eqb _ _ k, ne_eqb _ _ h, a, y), rw (← is, ne_eqb _ _ k, ne_eqb _ _ h, b, z))
 
-  abbrev run : Run
+  abbrev pub run : Run
   run = run_from (context_in d.ds) start d.steps 0 d.count
 
   run_is : run ≡ run_in d
