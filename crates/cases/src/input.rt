@@ -130,13 +130,12 @@ pub fn next_words<'a>(input: &mut Input, room: &'a mut [u16]) -> io::Result<&'a 
     Ok(front(room, n))
 }
 
-// The next `n` bytes, whatever they are, in the place of those in `room`: fewer where the input ends. They are not read one by one, since they may be many. The library says nothing
-// of how many were read, so that no more than `n` are left is said here.
-pub fn next_bytes(input: &mut Input, room: &mut Vec<u8>, n: usize) -> io::Result<()>
-    ensures { IfOk result (λ _. vec_len room.new ≤ n) }
+// The next `n` bytes, whatever they are, which are put to the front of `room`: fewer where the input ends or there is no more room. They are not read one by one, since they may be many.
+// The library says nothing of how many were read, so that there are no more is said here.
+pub fn next_bytes<'a>(input: &mut Input, room: &'a mut [u8], n: usize) -> io::Result<&'a [u8]>
+    ensures { IfOk result (λ bytes. Taken (as_bor room.entry) n bytes) }
 {
-    room.clear();
-    input.by_ref().take(n as u64).read_to_end(room)?;
-    room.truncate(n);
-    Ok(())
+    let most = n.min(room.len());
+    let read = io::copy(&mut input.by_ref().take(most as u64), &mut &mut room[..])?;
+    Ok(&room[..most.min(read as usize)])
 }

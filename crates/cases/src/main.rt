@@ -16,7 +16,7 @@ use crate::input::{Input, number_or_end, skip_line};
 use crate::output::Output;
 use std::io::{self, BufReader, LineWriter, Write};
 
-// The rooms of the two sides have so many words: more than the slice of a side is to have.
+// The rooms of the two sides have so many words, and that of a step's slice: more than the slice is to have.
 const ROOM: usize = 5000;
 
 // What runs and replays are lent. Nobody clears the two sides between cases: a word that one left, and that the next was to write over, would
@@ -25,10 +25,9 @@ const ROOM: usize = 5000;
 pub struct Rooms {
     left: [u16; ROOM],
     right: [u16; ROOM],
-    file: Vec<u8>,
 }
 
-// The table of kinds. `behind` is the byte that was taken behind the kind.
+// The table of kinds, none of which is inlined: the arrays of all of them would else stand on the stack together. `behind` is the byte that was taken behind the kind.
 fn answer(
     input: &mut Input,
     output: &mut Output,
@@ -65,7 +64,6 @@ fn main(rt: HostRuntime) -> io::Result<()> {
     let mut rooms = Rooms {
         left: [0; ROOM],
         right: [0; ROOM],
-        file: Vec::new(rt.alloc()),
     };
     answer_all(&mut input, &mut output, &mut rooms)?;
     output.flush()

@@ -8,11 +8,13 @@ use crate::output::Output;
 use file::replay::replay;
 use std::io;
 
+#[inline(never)]
 pub fn answer(input: &mut Input, output: &mut Output, rooms: &mut Rooms) -> io::Result<()> {
-    let n = next_number(input)?.min(70000);
-    next_bytes(input, &mut rooms.file, n)?;
+    let mut room = [0u8; 70000];
+    let n = next_number(input)?;
+    let file = next_bytes(input, &mut room, n)?;
     let left = front_mut(&mut rooms.left, 4096);
     let right = front_mut(&mut rooms.right, 4096);
-    let answer = replay(&rooms.file, left, right);
+    let answer = replay(file, left, right);
     write(output, answer, left, right)
 }

@@ -18,6 +18,7 @@ fn next_slice<'a>(input: &mut Input, room: &'a mut [u16]) -> io::Result<&'a mut 
     Ok(front_mut(room, size))
 }
 
+#[inline(never)]
 pub fn answer(input: &mut Input, output: &mut Output, rooms: &mut Rooms) -> io::Result<()> {
     let ds = next_declarations(input)?;
     let n = next_number(input)?;

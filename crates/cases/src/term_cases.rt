@@ -21,6 +21,7 @@ fn call(input: &mut Input, output: &mut Output, op: usize) -> io::Result<()> {
     }
 }
 
+#[inline(never)]
 pub fn answer(input: &mut Input, output: &mut Output) -> io::Result<()> {
     copy_name(input, output)?;
     let op = next_number(input)?;

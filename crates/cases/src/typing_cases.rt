@@ -36,6 +36,7 @@ pub fn write(output: &mut Output, t: Typing) -> io::Result<()> {
 }
 
 // The slice is the whole array, with zeros behind the words that are read.
+#[inline(never)]
 pub fn answer(input: &mut Input, output: &mut Output) -> io::Result<()> {
     let ds = next_declarations(input)?;
     let length = next_number(input)?;

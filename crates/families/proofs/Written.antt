@@ -5,15 +5,13 @@ use mathlib.Core.List.{List}
 use mathlib.Core.Option.{Option, some, none}
 use Prim.Native.Nat.{ℕ}
 use lib.ListN.{length}
-use Rattle.std.specs.Prelude.{Option as Found, Some, None, Result, Ok, Err, IsErrAnd, IfOk, ok_or}
+use Rattle.std.specs.Prelude.{Option as Found, Some, None, Result, Ok, Err, IsErrAnd, ok_or}
 use Rattle.words.specs.Words.{Added}
 use Rattle.term.specs.Trees.{Tree, words}
 use Rattle.rules.specs.Steps.{few}
 use Rattle.families.specs.declared.writing.Refusal.{Refusal}
 use Rattle.families.specs.declared.writing.Refusal.TheVariants.{NoInstance, TooBig}
-use Rattle.families.specs.declared.writing.Replaced.{Replaced}
-use Rattle.families.specs.Writing.{code_of, Wrote, Measures, ends, family_of, Writes}
-use Rattle.types.specs.Sorts.{Context}
+use Rattle.families.specs.Writing.{code_of, Wrote, Writes}
 
 -- the error of an `ok_or`, and what a `?` makes of it
 handed_on : {A : Type 0} (c : Found A) (e : Refusal) (r : Result ℕ Refusal) → Err e ≡ ok_or c NoInstance → IsErrAnd r (λ x. x ≡ e) → r ≡ Err NoInstance
@@ -45,10 +43,6 @@ module _ {o : Option Tree} (out : List ℕ) where
 pub passed_up : {A : Type 0} (e : Refusal) (r : Result A Refusal) → IsErrAnd r (λ x. x ≡ e) → r ≡ Err e
 passed_up e (Ok end) k = absurd k
 passed_up e (Err x) k = ap Err k
-
-pub handed_up : (out out' : List ℕ) (n i j : ℕ) (ws : List ℕ) (e : Refusal) (r : Result Replaced Refusal) → IsErrAnd r (λ x. x ≡ e)
-    → ((Γ : Context) → Writes (family_of Γ n i j ws) out out' (Err e)) → ((Γ : Context) → Writes (family_of Γ n i j ws) out out' (ends r)) × IfOk r (Measures n ws)
-handed_up out out' n i j ws e r k h = rw (passed_up e r k) (h, tt)
 
 -- and of a promise that is kept, which of the three it was
 pub data Way (out out' : List ℕ) : Result ℕ Refusal → Option Tree → Type 0 where

@@ -1,5 +1,5 @@
 -- What a rule of a family makes of the part with which words begin, as the code equals it: what to believe is `Instance` of `rules` Instances, by way of `rewrite`.
-use Rattle.std.specs.Prelude.{◌≡◌, Bool, true, false, cond, Some, None, Result, Ok, Err, IsOkAnd, IsErrAnd, List, ℕ, length}
+use Rattle.std.specs.Prelude.{◌≡◌, Bool, true, false, cond, Option as Found, Some, None, Result, IsOkAnd, IsErrAnd, List, ℕ, length}
 use Rattle.std.proofs.Math.Option.{Option, some, none}
 use Rattle.words.specs.Words.{Added}
 use Rattle.term.specs.Trees.{Tree, Forest, none as no-tree, ◌▹◌, words}
@@ -12,7 +12,6 @@ use Rattle.rulebook.specs.declared.Family.{Family}
 use Rattle.rulebook.specs.declared.Family.TheVariants.{NoRule, Equation, Spread, Remove, Absorb, Merge, Collect, Swap, Distribute}
 use Rattle.families.specs.declared.writing.Refusal.{Refusal}
 use Rattle.families.specs.declared.writing.Refusal.TheVariants as Why
-use Rattle.families.specs.declared.writing.Replaced.{Replaced}
 
 -- the family of a rule
 unfoldable pub family_in : Option Rule → Family
@@ -89,15 +88,10 @@ keeps_in Distribute = false
 unfoldable pub keeps_depth : Option Rule → Bool
 keeps_depth o = keeps_in (family_in o)
 
--- what is told of a part that is replaced: how many words it has and, where the rule of the number may leave it deeper, how deep it is
-pub record Measures (n : ℕ) (ws : List ℕ) (r : Replaced) : Type 0 where
-  pub size : r.size ≡ length (part ws 0)
-  pub depth : r.depth ≡ cond (may_deepen (rule_of n)) (Some (part_depth ws 0)) None
-
--- and where what was written for it ends
-abbrev pub ends : Result Replaced Refusal → Result ℕ Refusal
-ends (Ok r) = Ok r.end
-ends (Err e) = Err e
+-- what is told of the part, refused or not: how many words it has and, where the rule of the number may leave it deeper, how deep it is
+pub record Measures (n : ℕ) (ws : List ℕ) (many : ℕ) (deep : Found ℕ) : Type 0 where
+  pub size : many ≡ length (part ws 0)
+  pub depth : deep ≡ cond (may_deepen (rule_of n)) (Some (part_depth ws 0)) None
 
 -- 22 where the part is no instance; what is refused writes nothing
 unfoldable pub Writes : Option Tree → List ℕ → List ℕ → Result ℕ Refusal → Type 0

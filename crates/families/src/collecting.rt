@@ -75,8 +75,9 @@ pub fn collect(
     if part.words[0] / 256 != SUM || j <= i {
         return Err(Refusal::NoInstance);
     }
-    let first = part.child(i).ok_or(Refusal::NoInstance)?;
+    // the later one first: where there is none, nothing is walked over
     let second = part.child(j).ok_or(Refusal::NoInstance)?;
+    let first = part.child(i).ok_or(Refusal::NoInstance)?;
     let x = x_of(part.words, first.start, i_scaled).ok_or(Refusal::NoInstance)?;
     let y = x_of(part.words, second.start, j_scaled).ok_or(Refusal::NoInstance)?;
     if !same(&part.words[x..first.end], &part.words[y..second.end]) {

@@ -8,14 +8,14 @@ mod numbers;
 mod spreading;
 pub mod writing;
 
-ghost use Rattle.std.specs.Prelude.{◌≡◌, cond, length, IfOk};
+ghost use Rattle.std.specs.Prelude.{◌≡◌, cond, length};
 ghost use Rattle.term.specs.Parts.{part, part_depth};
 ghost use Rattle.types.specs.Sorts.{Context};
 ghost use Rattle.rules.specs.Table.{Rule, distributing, rule_of};
 ghost use Rattle.rulebook.specs.Code.Rows.{row_of};
 ghost use Rattle.rulebook.specs.declared.Family.TheVariants.{Spread};
 ghost use Rattle.families.specs.Code.Families.{Does, Lined};
-ghost use Rattle.families.specs.Writing.{Writes, Measures, ends, family_of, deepens_in, keeps_depth};
+ghost use Rattle.families.specs.Writing.{Writes, Measures, family_of, deepens_in, keeps_depth};
 
 use crate::chains::{absorb, merge, remove, swap};
 use crate::children::Part;
@@ -128,29 +128,26 @@ fn extent_of(ws: &[u16], family: Family) -> Extent
 }
 
 // What the rule of a number makes of the part with which the words begin: `NoInstance` where no whole part does, and for a number that is no family's.
-pub fn rewrite_family(
-    ws: &[u16],
-    rule: usize,
-    i: usize,
-    j: usize,
-    out: &mut [u16],
-) -> Result<Replaced, Refusal>
-    ensures { ((Γ : Context) → Writes (family_of Γ rule i j ws.now) out.old out.new (ends result)) × IfOk result (Measures rule ws.now) }
+pub fn rewrite_family(ws: &[u16], rule: usize, i: usize, j: usize, out: &mut [u16]) -> Replaced
+    ensures { ((Γ : Context) → Writes (family_of Γ rule i j ws.now) out.old out.new result.written)
+        × Measures rule ws.now result.size result.depth }
 {
     let row = row_of(rule);
-    let extent = extent_of(ws, row.family);
-    if extent.size == 0 {
-        return Err(Refusal::NoInstance);
+    let Extent { size, depth } = extent_of(ws, row.family);
+    if size == 0 {
+        return Replaced {
+            written: Err(Refusal::NoInstance),
+            size,
+            depth,
+        };
     }
-    let part = Part {
-        words: &ws[..extent.size],
-    };
-    let end = family_at(part, rule, row, i, j, out)?;
-    Ok(Replaced {
-        end,
-        size: extent.size,
-        depth: extent.depth,
-    })
+    let part = Part { words: &ws[..size] };
+    let written = family_at(part, rule, row, i, j, out);
+    Replaced {
+        written,
+        size,
+        depth,
+    }
 }
 
 // Whether the rule of a number leaves a part as deep as it was: one that exchanges does.

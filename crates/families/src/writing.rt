@@ -29,10 +29,11 @@ impl Refusal {
     }
 }
 
-// What was written for the part with which words begin: where that ends, how many words the part has and, where the rule may leave it deeper, how deep it is.
+// What a rule of a family makes of the part with which words begin: where what is written for it ends, or why nothing is. Of the part itself the same is told either way: how many words it
+// has and, where the rule may leave it deeper, how deep it is.
 #[derive(Clone, Copy)]
 pub struct Replaced {
-    pub end: usize,
+    pub written: Result<usize, Refusal>,
     pub size: usize,
     pub depth: Option<usize>,
 }

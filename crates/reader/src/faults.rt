@@ -10,7 +10,7 @@ pub struct Fault {
     pub at: usize,
 }
 
-pub fn refused(code: usize, line: usize) -> Fault
+pub(crate) fn refused(code: usize, line: usize) -> Fault
     ensures { result ≡ fault code line }
 {
     Fault { code, at: line }

@@ -14,13 +14,13 @@ use Rattle.rulebook.specs.declared.Family.TheVariants.{Equation}
 use Rattle.rulebook.specs.Code.Rows.{row_of}
 use Rattle.families.specs.declared.writing.Refusal.{Refusal}
 use Rattle.families.specs.Code.Families.{Lined, an_equation}
-use Rattle.families.specs.Writing.{may_deepen, family_of, Measures, ends, Writes}
-use Rattle.families.specs.declared.writing.Replaced.{Replaced}
+use Rattle.families.specs.Writing.{may_deepen, family_of, Measures, Writes}
+use Rattle.step.specs.declared.rewriting.Rewritten.{Rewritten}
 use Rattle.families.proofs.Written.{passed_up}
 use Rattle.families.proofs.Lines.{lined, numbered, ruled, a_family}
 use Rattle.families.proofs.Depths.{row-deepens}
 use Rattle.families.proofs.Theorems.{at_part_lem}
-use Rattle.step.specs.Code.Site.{words_from, Site, Equation as Equated, equated_at, Promise}
+use Rattle.step.specs.Code.Site.{words_from, ends, Site, Equation as Equated, equated_at, Promise}
 
 -- the equation of a row
 equation_by : (n : ℕ) {row : Row} {rule : Rule} → Lined row Equation rule → rule_of n ≡ some rule → row ≡ row_of n → (e : Equated n row) × (rule ≡ (e.condition ⇒ e.left ▷ e.right))
@@ -45,6 +45,6 @@ module _ (s : Step) (row : Row) (h : row ≡ row_of s.rule) (ds term out out' : 
       rw (at_part_lem Γ s.rule s.i s.j is (a_family s.rule row h is z) x.tree x.formed _ x.after x.whole) at (p Γ)
 
 -- a refusal that a `?` passes up
-pub refused_up : (s : Step) (ds term out out' : List ℕ) (e : Refusal) (r : Result Replaced Refusal) → IsErrAnd r (λ x. x ≡ e) → Promise ds term s out out' (Err e)
-    → Promise ds term s out out' (ends r) × IfOk r (Measures s.rule (words_from term s.place))
+pub refused_up : (s : Step) (ds term out out' : List ℕ) (e : Refusal) (r : Result Rewritten Refusal) → IsErrAnd r (λ x. x ≡ e) → Promise ds term s out out' (Err e)
+    → Promise ds term s out out' (ends r) × IfOk r (λ x. Measures s.rule (words_from term s.place) x.size x.depth)
 refused_up s ds term out out' e r k p = rw (passed_up e r k) (p, tt)

@@ -18,7 +18,7 @@ use Rattle.term.proofs.Scan.{part_length}
 use Rattle.term.proofs.Places.{place, subtree-inside, subtree-formed, replace-formed, words-replace, length-replace, level-replace, depth-replace, level-words}
 use Rattle.rules.specs.Steps.{few, few*, within, limited}
 use Rattle.rules.proofs.Formed.{formed-few}
-use Rattle.families.specs.declared.writing.Replaced.{Replaced}
+use Rattle.step.specs.declared.rewriting.Rewritten.{Rewritten}
 use Rattle.families.specs.declared.writing.Refusal.{Refusal}
 use Rattle.families.specs.declared.writing.Refusal.TheVariants.{TooBig}
 use Rattle.std.specs.Prelude.{Option as Found, Some, None, Result, Ok, Err}
@@ -137,7 +137,7 @@ module _ {term : List ℕ} {at : ℕ} {old : Found ℕ} {new : List ℕ} (f : Se
   seat_flat e = omega (arith, f.flat e, part-fits)
 
 -- ---- a fresh part in its term
-module _ {term : List ℕ} {at : ℕ} {made : Replaced} {out : List ℕ} (f : Fresh term at made out) where
+module _ {term : List ℕ} {at : ℕ} {made : Rewritten} {out : List ℕ} (f : Fresh term at made out) where
   -- where the part ends
   abbrev end : ℕ
   end = at + made.size

@@ -35,7 +35,7 @@ use Rattle.rulebook.specs.declared.Row.{Row}
 use Rattle.rulebook.specs.declared.Family.TheVariants as F
 use Rattle.rulebook.specs.Code.Rows.{row_of}
 use Rattle.families.specs.declared.writing.Refusal.{Refusal}
-use Rattle.families.specs.declared.writing.Replaced.{Replaced}
+use Rattle.step.specs.declared.rewriting.Rewritten.{Rewritten}
 use Rattle.families.specs.declared.writing.Refusal.TheVariants.{NoRule, NoPart}
 use Rattle.families.specs.Writing.{code_of, may_deepen, Measures}
 use Rattle.families.proofs.Depths.{no_deeper}
@@ -208,7 +208,7 @@ module _ {ds term : List ℕ} (x : Termed ds term) (s : Step) where
         typed-formed X (rule-keeps X s.rule k.rule k.is s.i s.j here q p.0 i p.1) f
 
     -- and where it did not, with what is told of the part
-    module _ (m : Replaced) (promise : Promise ds term s old out (Ok m.end)) (part-is : Measures s.rule (words_from term s.place) m) where
+    module _ (m : Rewritten) (promise : Promise ds term s old out (Ok m.end)) (part-is : Measures s.rule (words_from term s.place) m.size m.depth) where
       pub record Fine : Type 0 where
         pub fresh : Fresh term s.place m out
         same : fresh.tree ≡ x.tree

@@ -11,8 +11,8 @@ ghost use Rattle.lent.specs.Lent.{asked};
 ghost use Rattle.step.specs.Answers.{held, between, step_in};
 ghost use Rattle.step.specs.Code.Making.{Termed, Seated, Fresh, code_in, length_in, Made};
 
-use crate::rewriting::rewrite_part;
-use families::writing::{Refusal, Replaced};
+use crate::rewriting::{Rewritten, rewrite_part};
+use families::writing::Refusal;
 use lent::steps::Step;
 use rulebook::{Family, row_of};
 use term::parts::{level_at, part_at};
@@ -53,7 +53,7 @@ fn is_too_deep(term: &[u16], place: usize, old: Option<usize>, part: &[u16]) -> 
 fn finish(
     term: &[u16],
     place: usize,
-    made: Replaced,
+    made: Rewritten,
     out: &mut [u16; TERM_SIZE],
 ) -> Result<usize, Refusal>
     requires { Fresh term.now place made out.old }

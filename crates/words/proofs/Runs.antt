@@ -10,11 +10,11 @@ use native.Mathlib.Decide.{dec_le}
 use native.Mathlib.Omega.{arith}
 use lib.Dec.{eqb}
 use lib.ListN.{length, take, drop, replicate, get_or, set, length-append, length-take, length-drop, length-replicate, drop_of_length-le}
-use lib.Seq.{take_all, take_at, length-take-le, drop-nil, drop-cons, drop-drop, drop-append-add, paste-suc}
+use lib.Seq.{take_all, take_at, length-take-le, get_or_at, drop-nil, drop-cons, drop-drop, drop-append-add, paste-suc}
 use borrow.Author.Tests.{eqb-true, eqb-false, eq-eqb, ne_eqb, le-leb, lt-leb}
 use Rattle.std.specs.Prelude.{}
 use borrow.Rule.Slice.PartMut.{put_mid}
-use Rattle.std.proofs.lemmas.List.{drop-replicate, drop-take, replicate_more, set_at, take-take}
+use Rattle.std.proofs.lemmas.List.{drop-replicate, replicate_more, take-take}
 use Rattle.words.specs.Words.{cleared, overlaid, agreeing, same_words, laid, Added}
 
 -- ---- clearing
@@ -75,6 +75,10 @@ overlaid-is (d ∷ dst) (s ∷ src) (suc i) h = cc (overlaid-is dst src i (omega
 -- one word more, copied over the first that is not yet
 pub copied_more : (dst src : List ℕ) (i : ℕ) → i < length dst → i < length src → set (take i src ++ drop i dst) i (get_or src i 0) ≡ take (i + 1) src ++ drop (i + 1) dst
 copied_more dst src i h k = rw add-one (simp zero-add at (paste-suc dst 0 src i 0 (omega arith) k))
+
+-- what is carried on from a word that is copied over: the next of the run with one more in front
+pub carried_on : (ws : List ℕ) (word i : ℕ) → i < length ws → get_or (take i (word ∷ ws) ++ drop i ws) i 0 ≡ get_or (word ∷ ws) (i + 1) 0
+carried_on ws word i h = rw (add-one, drop-cons ws i 0 h, get_or_at (take i (word ∷ ws)) (get_or ws i 0) (drop (suc i) ws) 0 i (length-take-le i (word ∷ ws) (omega arith)))
 
 -- ---- comparing
 -- the ways in which two runs agree for n words and no further
@@ -201,17 +205,17 @@ module _ (ws : List ℕ) (at word n : ℕ) where
   pub no_room : length ws ≤ at + n → laid ws at (word ∷ take n (drop at ws)) ≡ ws
   no_room h = let l = length-take n (drop at ws) in let m = length-drop at ws in laid_out ws at (word ∷ take n (drop at ws)) (omega arith)
 
-  -- the words up to the one behind them, turned by one, and the word in the place of the one that came to the front
-  pub laid_turned : (turned : List ℕ) (k m : ℕ) → at + n < length ws → k ≡ n + 1 → m ≡ n → turned ≡ drop m (take k (drop at ws)) ++ take m (take k (drop at ws))
-      → set (put_mid at k ws turned) at word ≡ laid ws at (word ∷ take n (drop at ws))
-  laid_turned turned k m h kn mn e =
+  -- the words up to the one behind them, with the word in front and without the last
+  pub laid_first : (row : List ℕ) (k : ℕ) → at + n < length ws → k ≡ n + 1 → row ≡ take (length (take k (drop at ws))) (word ∷ take k (drop at ws))
+      → put_mid at k ws row ≡ laid ws at (word ∷ take n (drop at ws))
+  laid_first row k h kn e =
       let rest = drop at ws in
       let l = length-drop at ws in
       let r = length-take n rest in
-      let front : take m (take k rest) ≡ take n rest = rw (kn, mn) (take-take n (n + 1) rest (omega arith)) in
-      let last : drop m (take k rest) ≡ get_or rest n 0 ∷ [] = rw (kn, mn, drop-take n 1 rest, drop-cons rest n 0 (omega arith)) in
+      let long : length (take k rest) ≡ suc n = omega (arith, length-take k rest) in
+      let front : take n (take k rest) ≡ take n rest = rw kn (take-take n (n + 1) rest (omega arith)) in
       let end : at + length (word ∷ take n rest) ≡ at + k = omega arith in
-      rw (e, front, last, laid_in ws at (word ∷ take n rest) (omega arith), end, ← drop-drop k at ws) (set_at (take at ws) _ _ word at (length-take-le at ws (omega arith)))
+      rw (e, long, front, laid_in ws at (word ∷ take n rest) (omega arith), end, ← drop-drop k at ws)
 
 -- ---- appending
 -- a run behind a run

@@ -92,13 +92,24 @@ pub fn append_run(out: &mut [u16], at: usize, ws: &[u16], from: usize, to: usize
     append(out, at, run(ws, from, to.saturating_sub(from)))
 }
 
+// Puts a word in front of a row, whose words move up by one; the last goes. Not by `rotate_right`: it calls `memmove`, a name that the library for C has had no need of.
+fn put_first(row: &mut [u16], word: u16)
+    ensures { row.new ≡ take (length row.old) (word ∷ row.old) }
+{
+    let mut carried = word;
+    for i in 0..row.len() {
+        let next = row[i];
+        row[i] = carried;
+        carried = next;
+    }
+}
+
 // Puts a word at an offset, in front of the `n` words from there on, which move up by one; the word behind them goes. Where there is none behind them it changes nothing.
 // It takes the slice and a place, as the appends do: `&mut ws[at..]` at the call would have to show that the place is inside, and here none is refused.
 pub fn insert(ws: &mut [u16], at: usize, word: u16, n: usize)
     ensures { ws.new ≡ laid ws.old at (word ∷ take n (drop at ws.old)) }
 {
     if n < ws.len().saturating_sub(at) {
-        ws[at..at + n + 1].rotate_right(1);
-        ws[at] = word;
+        put_first(&mut ws[at..at + n + 1], word);
     }
 }

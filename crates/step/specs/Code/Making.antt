@@ -8,7 +8,7 @@ use Rattle.types.specs.Sorts.{Sort}
 use Rattle.types.specs.Rules.{Typed}
 use Rattle.declarations.specs.Declarations.{context_in, good_declarations}
 use Rattle.rules.specs.Steps.{Stepped}
-use Rattle.families.specs.declared.writing.Replaced.{Replaced}
+use Rattle.step.specs.declared.rewriting.Rewritten.{Rewritten}
 use Rattle.families.specs.declared.writing.Refusal.{Refusal}
 use Rattle.families.specs.Writing.{code_of}
 
@@ -32,7 +32,7 @@ pub record Seated (term : List ℕ) (place : ℕ) (old : Option ℕ) (new : List
   pub flat : ForNone old (part_depth new 0 ≤ depth part)
 
 -- a part of it that gives way to a result, whose words stand in the scratch slice as far as they fit
-pub record Fresh (term : List ℕ) (place : ℕ) (made : Replaced) (out : List ℕ) : Type 0 where
+pub record Fresh (term : List ℕ) (place : ℕ) (made : Rewritten) (out : List ℕ) : Type 0 where
   pub tree : Tree
   pub is : words tree ≡ term
   pub short : length term ≤ max_words

@@ -1,5 +1,5 @@
 -- Where a rule is tried: a typed part of a term, under good declarations.
-use Rattle.std.specs.Prelude.{◌≡◌, true, Result, List, [], ◌++◌, ℕ, ◌-◌, ◌≤◌, length, take, drop}
+use Rattle.std.specs.Prelude.{◌≡◌, true, Result, Ok, Err, List, [], ◌++◌, ℕ, ◌-◌, ◌≤◌, length, take, drop}
 use Rattle.std.proofs.Math.Option.{Option, some}
 use Rattle.term.specs.Trees.{Tree, words, Formed, depth}
 use Rattle.term.specs.Terms.{max_depth}
@@ -15,6 +15,7 @@ use Rattle.families.specs.Writing.{Writes}
 use Rattle.rules.specs.Steps.{Step}
 use Rattle.rulebook.specs.declared.Row.{Row}
 use Rattle.rulebook.specs.Code.Rows.{row_of}
+use Rattle.step.specs.declared.rewriting.Rewritten.{Rewritten}
 
 -- the words of a term from a place on, as the code lends them
 abbrev pub words_from : List ℕ → ℕ → List ℕ
@@ -44,6 +45,11 @@ pub record Equation (number : ℕ) (row : Row) : Type 0 where
 -- what the equation makes of the part
 abbrev pub equated_at : (ds : List ℕ) {term : List ℕ} {place : ℕ} {ws : List ℕ} {number : ℕ} {row : Row} → Site ds term place ws → Equation number row → ℕ → ℕ → Option Tree
 equated_at ds x e i j = rewrite (context_at ds x.bodies) (e.condition ⇒ e.left ▷ e.right) i j x.tree
+
+-- where what was written for a part ends
+abbrev pub ends : Result Rewritten Refusal → Result ℕ Refusal
+ends (Ok r) = Ok r.end
+ends (Err e) = Err e
 
 -- what a step's rule makes of the part at its place is written
 abbrev pub Promise : List ℕ → List ℕ → Step → List ℕ → List ℕ → Result ℕ Refusal → Type 0

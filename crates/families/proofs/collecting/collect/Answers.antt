@@ -10,16 +10,16 @@ use Rattle.families.proofs.Collected.{collects_other, collects-order, collects-o
 use Rattle.families.proofs.Gathered.{both-few, both_added}
 use Rattle.families.proofs.Whole.{whole}
 use Rattle.families.proofs.collecting.collect.Goals as goal
-use Rattle.families.proofs.collecting.collect.Goals.{In_ok-second, In_ok-y}
+use Rattle.families.proofs.collecting.collect.Goals.{In_ok-first, In_ok-y}
 
 -- the two children, once both are found
-both : (c : In_ok-second)
+both : (c : In_ok-first)
     → Pair c.args.part.words.now c.args.i c.args.j c.in_ok-first.first.start c.in_ok-first.first.end c.in_ok-second.second.start c.in_ok-second.second.end
-both c = pair (whole c.args.part.whole) c.if-j-i.false (sym c.in_ok-first.ensures.ok_part ∙ c.child.ensures) (sym c.in_ok-second.ensures.ok_part ∙ c.child-2.ensures)
+both c = pair (whole c.args.part.whole) c.if-j-i.false (sym c.in_ok-first.ensures.ok_part ∙ c.child-2.ensures) (sym c.in_ok-second.ensures.ok_part ∙ c.child.ensures)
 
 -- and where they stand, once their X are
 stand : (c : In_ok-y) → Placed c.args.part.words.now c.in_ok-first.first c.in_ok-second.second c.in_ok-x.x c.in_ok-y.y
-stand c = placed c.args.i_scaled c.args.j_scaled (whole c.args.part.whole) c.if-j-i.false (sym c.in_ok-first.ensures.ok_part ∙ c.child.ensures) (sym c.in_ok-second.ensures.ok_part ∙ c.child-2.ensures)
+stand c = placed c.args.i_scaled c.args.j_scaled (whole c.args.part.whole) c.if-j-i.false (sym c.in_ok-first.ensures.ok_part ∙ c.child-2.ensures) (sym c.in_ok-second.ensures.ok_part ∙ c.child.ensures)
     (sym c.in_ok-x.ensures.ok_part ∙ c.x_of.ensures) (sym c.in_ok-y.ensures.ok_part ∙ c.x_of-2.ensures)
 
 pub bounds-part-0 : goal.bounds-part-0
@@ -30,37 +30,37 @@ returns-then-part-ne-SUM c = λ Γ.
     let w = whole c.args.part.whole in
     refuses _ (⊎_elim (λ t. collects_other Γ _ _ _ _ w t) (λ t. collects-order Γ _ _ _ _ w t.1) c.then-part-ne-SUM.either)
 
-pub returns-in_err-first : goal.returns-in_err-first
-returns-in_err-first c = λ Γ.
-    let none = c.in_err-first.ensures in
-    refuses_none _ c.child.result c.from_residual.result
-    (collects-none Γ _ _ _ _ (whole c.args.part.whole) (omega (arith, c.if-j-i.false)) (no_child _ _ (sym none.ok_part ∙ c.child.ensures))) none.value c.from_residual.ensures.1
-
 pub returns-in_err-second : goal.returns-in_err-second
 returns-in_err-second c = λ Γ.
     let none = c.in_err-second.ensures in
-    refuses_none _ c.child-2.result c.from_residual-in_err-second.result
-    (collects-outside Γ _ _ _ _ (whole c.args.part.whole) (no_child _ _ (sym none.ok_part ∙ c.child-2.ensures))) none.value c.from_residual-in_err-second.ensures.1
+    refuses_none _ c.child.result c.from_residual.result
+    (collects-outside Γ _ _ _ _ (whole c.args.part.whole) (no_child _ _ (sym none.ok_part ∙ c.child.ensures))) none.value c.from_residual.ensures.1
+
+pub returns-in_err-first : goal.returns-in_err-first
+returns-in_err-first c = λ Γ.
+    let none = c.in_err-first.ensures in
+    refuses_none _ c.child-2.result c.from_residual-in_err-first.result
+    (collects-none Γ _ _ _ _ (whole c.args.part.whole) (omega (arith, c.if-j-i.false)) (no_child _ _ (sym none.ok_part ∙ c.child-2.ensures))) none.value c.from_residual-in_err-first.ensures.1
 
 pub returns-in_err-x : goal.returns-in_err-x
 returns-in_err-x c = λ Γ.
-    let p = both (goal.at.returns-in_err-x c).In_ok-second in
+    let p = both (goal.at.returns-in_err-x c).In_ok-first in
     let none = c.in_err-x.ensures in
     refuses_none _ c.x_of.result c.from_residual-in_err-x.result (collects-no_first p Γ _ _ c.if-part-ne-SUM.false (locate p.first _ (sym none.ok_part ∙ c.x_of.ensures))) none.value
     c.from_residual-in_err-x.ensures.1
 
 pub returns-in_err-y : goal.returns-in_err-y
 returns-in_err-y c = λ Γ.
-    let p = both (goal.at.returns-in_err-y c).In_ok-second in
+    let p = both (goal.at.returns-in_err-y c).In_ok-first in
     let none = c.in_err-y.ensures in
     refuses_none _ c.x_of-2.result c.from_residual-in_err-y.result (collects-no_second p Γ _ _ c.if-part-ne-SUM.false (locate p.second _ (sym none.ok_part ∙ c.x_of-2.ensures))) none.value
     c.from_residual-in_err-y.ensures.1
 
 pub x_of-requires : goal.x_of-requires
-x_of-requires c = omega (arith, pair-bounds (both (goal.at.x_of-requires c).In_ok-second))
+x_of-requires c = omega (arith, pair-bounds (both (goal.at.x_of-requires c).In_ok-first))
 
 pub x_of-requires-2 : goal.x_of-requires-2
-x_of-requires-2 c = omega (arith, pair-bounds (both (goal.at.x_of-requires-2 c).In_ok-second))
+x_of-requires-2 c = omega (arith, pair-bounds (both (goal.at.x_of-requires-2 c).In_ok-first))
 
 pub offset_bounds-part-x : goal.offset_bounds-part-x
 offset_bounds-part-x c =
@@ -92,7 +92,7 @@ slice_bounds-same-end-2 c = (stand (goal.at.slice_bounds-same-end-2 c).In_ok-y).
 
 pub returns-then-not-same : goal.returns-then-not-same
 returns-then-not-same c = λ Γ.
-    let p = both (goal.at.returns-then-not-same c).In_ok-second in
+    let p = both (goal.at.returns-then-not-same c).In_ok-first in
     let x = locate p.first _ (sym c.in_ok-x.ensures.ok_part ∙ c.x_of.ensures) in
     let y = locate p.second _ (sym c.in_ok-y.ensures.ok_part ∙ c.x_of-2.ensures) in
     refuses _ (collects-unlike p Γ _ _ c.if-part-ne-SUM.false x y c.same.ensures c.if-not-same.true)
@@ -128,7 +128,7 @@ slice_bounds-append_multiple-end c = (stand (goal.at.slice_bounds-append_multipl
 
 pub returns : goal.returns
 returns c = λ Γ.
-    let p = both (goal.at.returns c).In_ok-second in
+    let p = both (goal.at.returns c).In_ok-first in
     let x = locate p.first c.args.i_scaled (sym c.in_ok-x.ensures.ok_part ∙ c.x_of.ensures) in
     let y = locate p.second c.args.j_scaled (sym c.in_ok-y.ensures.ok_part ∙ c.x_of-2.ensures) in
     let head = c.if-part-ne-SUM.false in

@@ -5,9 +5,14 @@ use Rattle.lent.specs.Lent.{asked}
 use Rattle.step.proofs.Dispatched.{equation_of, equation_deepens, equates, at_site, refused_up}
 use Rattle.step.proofs.rewriting.rewrite_part.Goals as goal
 
-pub returns-in_default : goal.returns-in_default
-returns-in_default c =
-    (at_site (asked c.args.s) _ c.requires.2 _ _ _ _ _ c.in_default.not-Equation c.rewrite_family.ensures.0, c.rewrite_family.ensures.1)
+pub returns-in_err-end-in_default : goal.returns-in_err-end-in_default
+returns-in_err-end-in_default c =
+    refused_up (asked c.args.s) _ _ _ _ _ c.from_residual-in_err-end-in_default.result c.from_residual-in_err-end-in_default.ensures.1
+    (at_site (asked c.args.s) _ c.requires.2 _ _ _ _ _ c.in_default.not-Equation (λ Γ. rw c.in_err-end-in_default.was at (c.rewrite_family-made.ensures.0 Γ)))
+
+pub returns-in_ok-end-in_default : goal.returns-in_ok-end-in_default
+returns-in_ok-end-in_default c =
+    (at_site (asked c.args.s) _ c.requires.2 _ _ _ _ _ c.in_default.not-Equation (λ Γ. rw c.in_ok-end-in_default.was at (c.rewrite_family-made.ensures.0 Γ)), c.rewrite_family-made.ensures.1)
 
 pub equate-requires : goal.equate-requires
 equate-requires c = let pre = c.requires in (pre.0, equation_of _ _ pre.2 c.in-Equation.is)
