@@ -1,6 +1,6 @@
 // Standard input as names and decimal numbers with one byte behind each, and as bytes. Any input is read: a number over the greatest usize
 // counts as that one, and the end of the input ends a name and a number too.
-ghost use Rattle.std.specs.Prelude.{◌≡◌, ◌≤◌, IfOk, min, vec_len};
+ghost use Rattle.std.specs.Prelude.{◌≡◌, ◌≤◌, IfOk, min};
 ghost use Rattle.cases.specs.Slices.{filled, Front, Taken};
 ghost use denote.MutBor.{as_bor};
 
